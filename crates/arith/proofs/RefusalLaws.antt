@@ -1,0 +1,41 @@
+-- Laws of the refusals' combinators: what a call that is not refused passed, and what a refused one answers.
+-- Assumes nothing.
+use Prim.Native.Nat.{ℕ, suc}
+use mathlib.Core.Path.{_≡_, refl, sym, ap, _∙_}
+use mathlib.Core.Bool.{Bool, true, false, _&&_, cond, false≢true}
+use native.Mathlib.Nat.{suc-ne-zero}
+use native.Mathlib.Decide.{ℕ-discrete}
+use lib.Dec.{eqb}
+use borrow.Author.Tests.{eq-eqb, ne-eqb}
+use Rattle.arith.specs.Refusal.{unless, orElse, answered}
+
+-- two tests that pass together each pass
+pub both-pass : (t u : Bool) → (t && u) ≡ true → (t ≡ true) × (u ≡ true)
+both-pass true u e = (refl, e)
+both-pass false u e = absurd (false≢true e)
+
+-- what is not refused has passed the test, and the later tests
+pub unless-none : (t : Bool) (number later : ℕ) → unless t (suc number) later ≡ 0 → (t ≡ true) × (later ≡ 0)
+unless-none true number later e = (refl, e)
+unless-none false number later e = absurd (suc-ne-zero number e)
+
+module _ (refusal : ℕ) (number : ℕ) where
+  pub refused-first : (refusal ≡ 0 → ⊥) → orElse refusal number ≡ refusal
+  refused-first h = ap (λ (t : Bool). cond t number refusal) (ne-eqb refusal 0 h)
+
+  pub refused-later : refusal ≡ 0 → orElse refusal number ≡ number
+  refused-later e = ap (λ (t : Bool). cond t number refusal) (eq-eqb refusal 0 e)
+
+  pub answered-none : (refusal ≡ 0 → ⊥) → answered refusal number ≡ 0
+  answered-none h = ap (λ (t : Bool). cond t number 0) (ne-eqb refusal 0 h)
+
+  pub answered-whole : refusal ≡ 0 → answered refusal number ≡ number
+  answered-whole e = ap (λ (t : Bool). cond t number 0) (eq-eqb refusal 0 e)
+
+-- a call that is not refused is refused neither at first nor later
+pub or-none : (refusal later : ℕ) → orElse refusal later ≡ 0 → (refusal ≡ 0) × (later ≡ 0)
+or-none refusal later e = go (ℕ-discrete refusal 0)
+  where
+    go : Dec (refusal ≡ 0) → (refusal ≡ 0) × (later ≡ 0)
+    go (yes z) = (z, sym (refused-later refusal later z) ∙ e)
+    go (no h) = absurd (h (sym (refused-first refusal later h) ∙ e))

@@ -1,0 +1,39 @@
+-- Laws of `upto`.
+-- Assumes nothing.
+use mathlib.Core.Path.{_≡_, refl, sym, ap, _∙_}
+use Prim.Native.Nat.{ℕ, zero, suc, _+_, _≤_, _<_}
+use native.Mathlib.Numerals.{add-one}
+use native.Mathlib.Decide.{decLt}
+use native.Mathlib.Omega.{arith}
+use mathlib.Core.List.{List, [], _∷_, _++_}
+use lib.ListN.{length, getD, set, drop, length-append, length-drop, List·getD-append}
+use lib.Seq.{set-at, getD-at, drop-cons, append-snoc}
+use Rattle.arith.specs.Run.{upto}
+
+pub upto-length : (f : ℕ → ℕ) (n : ℕ) → length (upto f n) ≡ n
+unfolding upto
+upto-length f zero = refl
+upto-length f (suc n) = rw (length-append, upto-length f n) (add-one n)
+
+-- what stands at a place
+pub upto-at : (f : ℕ → ℕ) (n k : ℕ) → k < n → getD (upto f n) k 0 ≡ f k
+unfolding upto
+upto-at f zero k h = absurd (omega arith)
+upto-at f (suc n) k h = go (decLt k n) (upto-at f n k)
+  where
+    go : Dec (k < n) → (k < n → getD (upto f n) k 0 ≡ f k) → getD (upto f n ++ f n ∷ []) k 0 ≡ f k
+    go (yes p) ih = List·getD-append (upto f n) (f n ∷ []) 0 k (omega (arith, upto-length f n)) ∙ ih p
+    go (no p) ih =
+        let e : k ≡ n = omega arith in
+        rw e (getD-at (upto f n) (f n) [] 0 n (upto-length f n))
+
+-- a store at i of a list whose first i places hold the first i elements: one element more
+pub upto-store : (f : ℕ → ℕ) (l : List ℕ) (i : ℕ) → i < length l → set (upto f i ++ drop i l) i (f i) ≡ upto f (i + 1) ++ drop (i + 1) l
+unfolding upto
+upto-store f l i h =
+    rw (add-one, drop-cons l i 0 h)
+    (set-at (upto f i) (getD l i 0) (drop (suc i) l) (f i) i (upto-length f i) ∙ sym (append-snoc (upto f i) (f i) (drop (suc i) l)))
+
+-- and the length of such a list
+pub upto-over : (f : ℕ → ℕ) (l : List ℕ) (i : ℕ) → i ≤ length l → length (upto f i ++ drop i l) ≡ length l
+upto-over f l i h = simp (length-append, upto-length, length-drop) (omega arith)

@@ -1,0 +1,133 @@
+-- Laws of `sumBelow`: equal terms, constants, splitting, sums of sums, and counting by indicators.
+-- Assumes nothing.
+use Prim.Native.Nat.{ℕ, zero, suc, _+_, _*_, _/_, _%_, _≤_, _<_}
+use mathlib.Core.Path.{_≡_, refl, sym, ap, ap₂, _∙_}
+use mathlib.Core.Logic.{_⊎_, inl, inr, _≢_}
+use native.Mathlib.Nat.{le-refl, le-step, le-of-suc-le-suc, not-suc-le-zero, eq-or-lt-of-le, ne-of-lt, add-zero, add-suc, zero-mul, suc-mul}
+use native.Mathlib.Decide.{ℕ-discrete}
+use native.Mathlib.Omega.{arith}
+use lib.Dec.{eqb}
+use lib.Arith.{digits-div, digits-mod}
+use borrow.Author.Tests.{eq-eqb, ne-eqb}
+use Rattle.arith.specs.Sum.{sumBelow, indicator}
+
+-- ---- the indicator of an equation
+
+pub indicator-one : {a b : ℕ} → a ≡ b → indicator (eqb a b) ≡ 1
+indicator-one {a} {b} e = ap indicator (eq-eqb a b e)
+
+pub indicator-none : {a b : ℕ} → a ≢ b → indicator (eqb a b) ≡ 0
+indicator-none {a} {b} f = ap indicator (ne-eqb a b f)
+
+-- ---- one sum
+
+pub sum-same : (n : ℕ) (f g : ℕ → ℕ) → ((i : ℕ) → i < n → f i ≡ g i) → sumBelow n f ≡ sumBelow n g
+unfolding sumBelow
+sum-same zero f g h = refl
+sum-same (suc n) f g h = ap₂ _+_ (sum-same n f g (λ i l. h i (le-step l))) (h n (le-refl (suc n)))
+
+-- A SUM OF A CONSTANT
+pub sum-constant : (n c : ℕ) (f : ℕ → ℕ) → ((i : ℕ) → i < n → f i ≡ c) → sumBelow n f ≡ n * c
+unfolding sumBelow
+sum-constant zero c f h = sym (zero-mul c)
+sum-constant (suc n) c f h = rw suc-mul (ap₂ _+_ (sum-constant n c f (λ i l. h i (le-step l))) (h n (le-refl (suc n))))
+
+-- A SUM SPLIT in the first m terms and the n after them
+pub sum-split : (m n : ℕ) (f : ℕ → ℕ) → sumBelow (m + n) f ≡ sumBelow m f + sumBelow n (λ i. f (m + i))
+unfolding sumBelow
+sum-split m zero f = rw (add-zero m) (sym (add-zero (sumBelow m f)))
+sum-split m (suc n) f = rw (add-suc m n) (omega (arith, sum-split m n f))
+
+pub sum-plus : (n : ℕ) (f g : ℕ → ℕ) → sumBelow n (λ i. f i + g i) ≡ sumBelow n f + sumBelow n g
+unfolding sumBelow
+sum-plus zero f g = refl
+sum-plus (suc n) f g = omega (arith, sum-plus n f g)
+
+sum-bounded : (n : ℕ) (f : ℕ → ℕ) → ((i : ℕ) → i < n → f i ≤ 1) → sumBelow n f ≤ n
+unfolding sumBelow
+sum-bounded zero f h = le-refl 0
+sum-bounded (suc n) f h = omega (arith, sum-bounded n f (λ i l. h i (le-step l)), h n (le-refl (suc n)))
+
+-- ---- sums of sums
+
+-- TWO SUMS EXCHANGED
+pub sum-exchange : (m n : ℕ) (F : ℕ → ℕ → ℕ) → sumBelow m (λ i. sumBelow n (λ j. F i j)) ≡ sumBelow n (λ j. sumBelow m (λ i. F i j))
+unfolding sumBelow
+sum-exchange zero n F = sym (sum-constant n 0 (λ j. 0) (λ j l. refl) ∙ omega arith)
+sum-exchange (suc m) n F =
+    ap (λ (s : ℕ). s + sumBelow n (λ j. F m j)) (sum-exchange m n F) ∙ sym (sum-plus n (λ j. sumBelow m (λ i. F i j)) (λ j. F m j))
+
+-- one sum over m * n terms is m sums over blocks of n
+pub sum-blocks : (m n : ℕ) (f : ℕ → ℕ) → sumBelow (m * n) f ≡ sumBelow m (λ i. sumBelow n (λ j. f (i * n + j)))
+unfolding sumBelow
+sum-blocks zero n f = rw zero-mul
+sum-blocks (suc m) n f = rw (suc-mul, sum-split (m * n) n) (ap (λ (s : ℕ). s + sumBelow n (λ j. f (m * n + j))) (sum-blocks m n f))
+
+-- a sum over the places (i, j) of m rows of n is one sum over their numbers i * n + j
+pub sum-places : (m n : ℕ) (F : ℕ → ℕ → ℕ) → sumBelow m (λ i. sumBelow n (λ j. F i j)) ≡ sumBelow (m * n) (λ k. F (k / n) (k % n))
+sum-places m n F =
+    sym
+    (sum-blocks m n (λ k. F (k / n) (k % n))
+    ∙ sum-same m _ _ (λ i l. sum-same n _ _ (λ j r. ap₂ F (digits-div i r) (digits-mod i r))))
+
+-- A WINDOW of u by v blocks, each l columns by h rows, that each add up to c adds up to u * v * c
+pub sum-window : (u v l h c : ℕ) (F : ℕ → ℕ → ℕ) → ((i j : ℕ) → sumBelow h (λ q. sumBelow l (λ p. F (i * l + p) (j * h + q))) ≡ c)
+    → sumBelow (v * h) (λ q. sumBelow (u * l) (λ p. F p q)) ≡ u * v * c
+sum-window u v l h c F block =
+    sum-blocks v h (λ q. sumBelow (u * l) (λ p. F p q))
+    ∙ sum-constant v (u * c) _ (λ j k. strip j)
+    ∙ omega arith
+  where
+    strip : (j : ℕ) → sumBelow h (λ q. sumBelow (u * l) (λ p. F p (j * h + q))) ≡ u * c
+    strip j =
+        sum-same h _ _ (λ q k. sum-blocks u l (λ p. F p (j * h + q)))
+        ∙ sum-exchange h u (λ q i. sumBelow l (λ p. F (i * l + p) (j * h + q)))
+        ∙ sum-constant u c _ (λ i k. block i j)
+
+-- ---- counting
+
+-- a number below n is met once among the numbers below n
+pub sum-met : (n v : ℕ) → v < n → sumBelow n (λ t. indicator (eqb v t)) ≡ 1
+unfolding sumBelow
+sum-met zero v h = absurd (not-suc-le-zero h)
+sum-met (suc n) v h = go (sum-met n v) (eq-or-lt-of-le (le-of-suc-le-suc h))
+  where
+    go : (v < n → sumBelow n (λ t. indicator (eqb v t)) ≡ 1) → (v ≡ n) ⊎ (v < n) → sumBelow n (λ t. indicator (eqb v t)) + indicator (eqb v n) ≡ 1
+    go ih (inl e) =
+        omega (arith, sum-constant n 0 (λ t. indicator (eqb v t)) (λ t l. indicator-none {a = v} {b = t} (λ q. omega arith)), indicator-one e)
+    go ih (inr l) = omega (arith, ih l, indicator-none (ne-of-lt l))
+
+-- a map that takes no value twice takes t at most once
+sum-once : (n : ℕ) (h : ℕ → ℕ) (t : ℕ) → ((i j : ℕ) → i < n → j < n → h i ≡ h j → i ≡ j) → sumBelow n (λ i. indicator (eqb (h i) t)) ≤ 1
+unfolding sumBelow
+sum-once zero h t apart = omega arith
+sum-once (suc n) h t apart = go (sum-once n h t (λ i j k l. apart i j (le-step k) (le-step l))) (ℕ-discrete (h n) t)
+  where
+    go : sumBelow n (λ i. indicator (eqb (h i) t)) ≤ 1 → Dec (h n ≡ t) → sumBelow n (λ i. indicator (eqb (h i) t)) + indicator (eqb (h n) t) ≤ 1
+    go ih (yes e) =
+        omega (
+          arith,
+          indicator-one e,
+          sum-constant n 0 (λ i. indicator (eqb (h i) t)) (λ i l. indicator-none (λ q. ne-of-lt l (apart i n (le-step l) (le-refl (suc n)) (q ∙ sym e)))),
+        )
+    go ih (no f) = omega (arith, ih, indicator-none f)
+
+-- n NUMBERS THAT ARE EACH AT MOST 1 AND ADD UP TO n are each 1
+pub sum-full : (n : ℕ) (f : ℕ → ℕ) → ((i : ℕ) → i < n → f i ≤ 1) → sumBelow n f ≡ n → (t : ℕ) → t < n → f t ≡ 1
+unfolding sumBelow
+sum-full zero f h e t l = absurd (not-suc-le-zero l)
+sum-full (suc n) f h e t l =
+    let least : sumBelow n f ≤ n = sum-bounded n f (λ i k. h i (le-step k)) in
+    let last : f n ≤ 1 = h n (le-refl (suc n)) in
+    go (sum-full n f (λ i k. h i (le-step k)) (omega arith) t) (omega arith) (eq-or-lt-of-le (le-of-suc-le-suc l))
+  where
+    go : (t < n → f t ≡ 1) → f n ≡ 1 → (t ≡ n) ⊎ (t < n) → f t ≡ 1
+    go ih x (inl q) = ap f q ∙ x
+    go ih x (inr k) = ih k
+
+-- EACH EXACTLY ONCE: a map of the numbers below n to themselves that takes no value twice takes each value once
+pub each-once : (n : ℕ) (h : ℕ → ℕ) → ((i : ℕ) → i < n → h i < n) → ((i j : ℕ) → i < n → j < n → h i ≡ h j → i ≡ j)
+    → (t : ℕ) → t < n → sumBelow n (λ i. indicator (eqb (h i) t)) ≡ 1
+each-once n h low apart =
+    sum-full n (λ t. sumBelow n (λ i. indicator (eqb (h i) t))) (λ t l. sum-once n h t apart)
+    (sum-exchange n n (λ t i. indicator (eqb (h i) t)) ∙ sum-constant n 1 _ (λ i l. sum-met n (h i) (low i l)) ∙ omega arith)
