@@ -1,0 +1,207 @@
+-- The brick, over plain numbers: its size, its period and shift, and that each phase occurs in it exactly once, wherever it lies.
+-- Assumes nothing.
+use Prim.Native.Nat.{ℕ, zero, suc, _+_, _-_, _*_, _/_, _%_, _≤_, _<_, _∣_}
+use mathlib.Core.Path.{_≡_, refl, sym, ap, ap₂, _∙_}
+use mathlib.Core.Bool.{Bool, true}
+use native.Mathlib.Nat.{pos-of-ne-zero, le-of-dvd, lt-of-lt-of-le, div-le-self, mul-zero, mul-suc, mul-comm, mul-assoc, mul-sub, add-zero, add-assoc, one-mul, mod-lt, mod-eq-of-lt, mod-mod-of-dvd, mod-add-div, div-add-mod', div-lt-iff-lt-mul, mul-div-cancel', dvd-mul-right, dvd-mul-right-of-dvd, dvd-of-mul-dvd-mul-left, add-mul-mod-self-left}
+use native.Mathlib.Omega.{arith}
+use lib.Dec.{eqb}
+use lib.Arith.{digits-lt}
+use borrow.Author.Tests.{eq-eqb, eqb-true}
+use Rattle.arith.specs.Gcd.{gcdOf}
+use Rattle.arith.specs.Remainder.{remainderOf}
+use Rattle.arith.specs.First.{firstBelow}
+use Rattle.arith.specs.Sum.{sumBelow, indicator}
+use Rattle.arith.proofs.GcdLaws.{gcd-divides, gcd-scaled, gcd-pos, gcd-reduced}
+use Rattle.arith.proofs.RemainderLaws.{same-remainder, below-divisor, remainder-plus, remainder-minus, remainder-multiple, remainder-scaled, remainder-below, remainder-words, remainder-same, remainder-crossed}
+use Rattle.arith.proofs.SumLaws.{sum-same, sum-places, sum-window, each-once}
+use Rattle.arith.proofs.Residues.{residue-once}
+use Rattle.arith.proofs.FirstLaws.{first-found, first-counted, first-passes}
+use Rattle.screen.specs.Phase.{phaseOf}
+use Rattle.screen.specs.Brick.{rowsOf, columnsOf, shiftOf}
+use Rattle.screen.proofs.PhaseLaws.{phase-below, steps-right}
+
+-- ---- size
+
+module _ (a n : ℕ) (pos : 0 < n) where
+  pub rows-pos : 0 < rowsOf a n
+  rows-pos = gcd-pos a n pos
+
+  pub rows-le : rowsOf a n ≤ n
+  rows-le = le-of-dvd pos (gcd-divides a n .1)
+
+  pub brick-size : rowsOf a n * columnsOf a n ≡ n
+  brick-size = mul-div-cancel' (gcdOf a n) (gcd-divides a n .1)
+
+  pub columns-pos : 0 < columnsOf a n
+  columns-pos = pos-of-ne-zero (λ e. none e)
+    where
+      none : columnsOf a n ≡ 0 → ⊥
+      none e =
+          let q : n ≡ 0 = sym brick-size ∙ ap (λ (l : ℕ). rowsOf a n * l) e ∙ mul-zero (rowsOf a n) in
+          omega arith
+
+  -- a brick's width of steps is a multiple of n
+  whole-row : a * columnsOf a n ≡ n * (a / rowsOf a n)
+  whole-row =
+      let h : ℕ = rowsOf a n in
+      let reduced : h * (a / h) ≡ a = mul-div-cancel' h (gcd-divides a n .0) in
+      ap (λ (z : ℕ). z * columnsOf a n) (sym reduced) ∙ omega (arith, ap (λ (z : ℕ). a / h * z) brick-size)
+
+  -- columns of one brick whose multiples of a leave the same remainder are the same column
+  pub column-only : (i j : ℕ) → i < columnsOf a n → j < columnsOf a n → a * i % n ≡ a * j % n → i ≡ j
+  column-only i j k l e = omega (arith, ahead i j l e, ahead j i k (sym e))
+    where
+      ahead : (i j : ℕ) → j < columnsOf a n → a * i % n ≡ a * j % n → j - i ≡ 0
+      ahead i j l e =
+          let h : ℕ = rowsOf a n in
+          let scaled : n ∣ h * (j - i) = gcd-scaled n (j - i) a n (rw mul-sub (same-remainder n (a * i) (a * j) e)) (dvd-mul-right n (j - i)) in
+          below-divisor (dvd-of-mul-dvd-mul-left (columnsOf a n) rows-pos (rw brick-size scaled)) (omega arith)
+
+-- ---- shift
+
+-- the test that S passes
+abbrev matches : ℕ → ℕ → ℕ → ℕ → Bool
+matches a b n t = eqb (a * t % n) (b * rowsOf a n % n)
+
+module _ (a b n : ℕ) (pos : 0 < n) where
+  -- some column passes: by L, the multiples of a / H meet each remainder, that of b among them
+  pub shift-below : shiftOf a b n < columnsOf a n
+  unfolding shiftOf
+  shift-below =
+      let h : ℕ = rowsOf a n in
+      let l : ℕ = columnsOf a n in
+      let once = residue-once (a / h) l 0 (gcd-reduced a n pos) (columns-pos a n pos) (b % l) (mod-lt b (columns-pos a n pos)) in
+      let small : ℕ = firstBelow l (λ i. eqb ((a / h * i + 0) % l) (b % l)) in
+      let found : small < l = first-counted l _ (omega (arith, once)) in
+      first-found l (matches a b n) small found (eq-eqb _ _ (lifted small (eqb-true _ _ (first-passes l _ found))))
+    where
+      lifted : (t : ℕ) → (a / rowsOf a n * t + 0) % columnsOf a n ≡ b % columnsOf a n → a * t % n ≡ b * rowsOf a n % n
+      lifted t e =
+          let h : ℕ = rowsOf a n in
+          let reduced : h * (a / h) ≡ a = mul-div-cancel' h (gcd-divides a n .0) in
+          let q : h * (a / h * t + 0) ≡ a * t = omega (arith, ap (λ (z : ℕ). z * t) reduced) in
+          rw (q, brick-size a n pos, mul-comm h b) at (remainder-scaled h (columnsOf a n) (a / h * t + 0) b e)
+
+  pub shift-limit : shiftOf a b n < n
+  shift-limit = lt-of-lt-of-le shift-below (div-le-self n (rowsOf a n))
+
+  pub shift-words : a * shiftOf a b n % n ≡ b * rowsOf a n % n
+  unfolding shiftOf
+  shift-words = eqb-true _ _ (first-passes (columnsOf a n) (matches a b n) shift-below)
+
+  pub shift-only : (t : ℕ) → t < columnsOf a n → a * t % n ≡ b * rowsOf a n % n → t ≡ shiftOf a b n
+  shift-only t l e = column-only a n pos t (shiftOf a b n) l shift-below (e ∙ sym shift-words)
+
+-- ---- places with the same phase
+
+module _ (a b n g : ℕ) (pos : 0 < n) where
+  -- m bricks to the right
+  pub period-times : (x y m : ℕ) → phaseOf a b n g (x + columnsOf a n * m) y ≡ phaseOf a b n g x y
+  period-times x y m =
+      let p : ℕ = phaseOf a b n g x y in
+      let q : a * (columnsOf a n * m) ≡ n * (a / rowsOf a n * m) = omega (arith, ap (λ (z : ℕ). z * m) (whole-row a n pos)) in
+      steps-right a b n g pos x y (columnsOf a n * m)
+      ∙ rw q (add-mul-mod-self-left p n (a / rowsOf a n * m))
+      ∙ mod-eq-of-lt (phase-below a b n g pos x y)
+
+  pub period-same : (x x′ y : ℕ) → x % columnsOf a n ≡ x′ % columnsOf a n → phaseOf a b n g x y ≡ phaseOf a b n g x′ y
+  period-same x x′ y e = first x ∙ ap (λ (z : ℕ). phaseOf a b n g z y) e ∙ sym (first x′)
+    where
+      first : (x : ℕ) → phaseOf a b n g x y ≡ phaseOf a b n g (x % columnsOf a n) y
+      first x = ap (λ (z : ℕ). phaseOf a b n g z y) (sym (mod-add-div x (columnsOf a n))) ∙ period-times (x % columnsOf a n) y (x / columnsOf a n)
+
+  -- a brick's height down and S to the right
+  pub shifted : (x y : ℕ) → phaseOf a b n g (x + shiftOf a b n) (y + rowsOf a n) ≡ phaseOf a b n g x y
+  unfolding phaseOf
+  shifted x y =
+      let t : ℕ = shiftOf a b n in
+      let h : ℕ = rowsOf a n in
+      let left : a * (x + t) + (b * y + g) ≡ a * t + (a * x + (b * y + g)) = omega arith in
+      let right : a * x + (b * (y + h) + g) ≡ b * h + (a * x + (b * y + g)) = omega arith in
+      remainder-same (a * (x + t)) (b * (y + h) + g) (a * x) (b * y + g) n pos
+      (ap (λ (z : ℕ). z % n) left ∙ remainder-plus n (a * t) (b * h) (a * x + (b * y + g)) (shift-words a b n pos) ∙ ap (λ (z : ℕ). z % n) (sym right))
+
+  shifted-times : (x y q : ℕ) → phaseOf a b n g (x + shiftOf a b n * q) (y + rowsOf a n * q) ≡ phaseOf a b n g x y
+  shifted-times x y zero = rw (mul-zero, mul-zero, add-zero, add-zero)
+  shifted-times x y (suc q) =
+      rw (mul-suc (shiftOf a b n) q, mul-suc (rowsOf a n) q, ← add-assoc, ← add-assoc)
+      (shifted (x + shiftOf a b n * q) (y + rowsOf a n * q) ∙ shifted-times x y q)
+
+  -- the place of the first brick that has the phase of (x, y)
+  pub in-first-brick : (x y : ℕ) → phaseOf a b n g (remainderOf x (shiftOf a b n * (y / rowsOf a n)) (columnsOf a n)) (y % rowsOf a n) ≡ phaseOf a b n g x y
+  in-first-brick x y =
+      let q : ℕ = y / rowsOf a n in
+      let u : ℕ = remainderOf x (shiftOf a b n * q) (columnsOf a n) in
+      sym (shifted-times u (y % rowsOf a n) q)
+      ∙ ap (λ (z : ℕ). phaseOf a b n g (u + shiftOf a b n * q) z) (mod-add-div y (rowsOf a n))
+      ∙ period-same (u + shiftOf a b n * q) x y (remainder-words x (shiftOf a b n * q) (columnsOf a n) (columns-pos a n pos))
+
+-- ---- each phase once
+
+module _ (a b n g : ℕ) (unit : gcdOf a b ≡ 1) (pos : 0 < n) where
+  -- rows of two places with one phase differ by a multiple of H, since H divides a and n and has no divisor above 1 in common with b
+  rows-apart : (x y x′ y′ : ℕ) → phaseOf a b n g x y ≡ phaseOf a b n g x′ y′ → rowsOf a n ∣ y - y′
+  unfolding phaseOf
+  rows-apart x y x′ y′ e =
+      let h : ℕ = rowsOf a n in
+      let h∣a : h ∣ a = gcd-divides a n .0 in
+      let h∣n : h ∣ n = gcd-divides a n .1 in
+      let v : ℕ = b * y + g in
+      let v′ : ℕ = b * y′ + g in
+      let by-h : (a * x + v′) % h ≡ (a * x′ + v) % h = sym (mod-mod-of-dvd h (a * x + v′) h∣n) ∙ ap (λ (z : ℕ). z % h) (remainder-crossed (a * x) v (a * x′) v′ n pos e) ∙ mod-mod-of-dvd h (a * x′ + v) h∣n in
+      let bare : v′ % h ≡ v % h = sym (remainder-multiple h (a * x) v′ (dvd-mul-right-of-dvd h h∣a x)) ∙ by-h ∙ remainder-multiple h (a * x′) v (dvd-mul-right-of-dvd h h∣a x′) in
+      let d : v - v′ ≡ b * (y - y′) = rw mul-sub (omega arith) in
+      rw (unit, one-mul) at (gcd-scaled h (y - y′) a b (dvd-mul-right-of-dvd h h∣a (y - y′)) (rw d at (same-remainder h v′ v bare)))
+
+  module _ (x y : ℕ) where
+    -- the phase of the brick's place k, rows after each other
+    at : ℕ → ℕ
+    at k = phaseOf a b n g (x + k % columnsOf a n) (y + k / columnsOf a n)
+
+    row-of : (k : ℕ) → k < n → k / columnsOf a n < rowsOf a n
+    row-of k l = div-lt-iff-lt-mul (columns-pos a n pos) .1 (rw (brick-size a n pos) l)
+
+    row-same : (i j : ℕ) → i < n → j < n → at i ≡ at j → i / columnsOf a n ≡ j / columnsOf a n
+    unfolding at
+    row-same i j k l e = omega (arith, ahead i j k e, ahead j i l (sym e))
+      where
+        ahead : (i j : ℕ) → i < n → at i ≡ at j → i / columnsOf a n - j / columnsOf a n ≡ 0
+        ahead i j k e =
+            let r : i / columnsOf a n < rowsOf a n = row-of i k in
+            let d : y + i / columnsOf a n - (y + j / columnsOf a n) ≡ i / columnsOf a n - j / columnsOf a n = omega arith in
+            below-divisor (rw d at (rows-apart _ _ _ _ e)) (omega arith)
+
+    column-same : (i j : ℕ) → i / columnsOf a n ≡ j / columnsOf a n → at i ≡ at j → i % columnsOf a n ≡ j % columnsOf a n
+    unfolding at phaseOf
+    column-same i j q e =
+        let u : ℕ = i % columnsOf a n in
+        let u′ : ℕ = j % columnsOf a n in
+        let v : ℕ = b * (y + i / columnsOf a n) + g in
+        let level : (a * (x + u) + v) % n ≡ (a * (x + u′) + v) % n = remainder-crossed (a * (x + u)) v (a * (x + u′)) v n pos (e ∙ ap (λ (z : ℕ). remainderOf (a * (x + u′)) (b * (y + z) + g) n) (sym q)) in
+        let bare : (a * u + a * x) % n ≡ (a * u′ + a * x) % n = ap (λ (z : ℕ). z % n) (omega arith) ∙ remainder-minus n (a * (x + u)) (a * (x + u′)) v pos level ∙ ap (λ (z : ℕ). z % n) (omega arith) in
+        column-only a n pos u u′ (mod-lt i (columns-pos a n pos)) (mod-lt j (columns-pos a n pos)) (remainder-minus n (a * u) (a * u′) (a * x) pos bare)
+
+    at-apart : (i j : ℕ) → i < n → j < n → at i ≡ at j → i ≡ j
+    at-apart i j k l e =
+        let q : i / columnsOf a n ≡ j / columnsOf a n = row-same i j k l e in
+        sym (div-add-mod' i (columnsOf a n)) ∙ ap₂ (λ (r u : ℕ). r * columnsOf a n + u) q (column-same i j q e) ∙ div-add-mod' j (columnsOf a n)
+
+    -- IN ANY L COLUMNS BY H ROWS each phase occurs exactly once
+    pub phase-once : (p : ℕ) → p < n → sumBelow (rowsOf a n) (λ j. sumBelow (columnsOf a n) (λ i. indicator (eqb (phaseOf a b n g (x + i) (y + j)) p))) ≡ 1
+    unfolding at
+    phase-once p l =
+        sum-places (rowsOf a n) (columnsOf a n) (λ j i. indicator (eqb (phaseOf a b n g (x + i) (y + j)) p))
+        ∙ rw (brick-size a n pos) (each-once n at (λ k _. phase-below a b n g pos _ _) at-apart p l)
+
+  -- IN u * L COLUMNS BY v * H ROWS exactly u * v times
+  pub phase-times : (x y u v p : ℕ) → p < n
+      → sumBelow (v * rowsOf a n) (λ j. sumBelow (u * columnsOf a n) (λ i. indicator (eqb (phaseOf a b n g (x + i) (y + j)) p))) ≡ u * v
+  phase-times x y u v p l =
+      sum-window u v (columnsOf a n) (rowsOf a n) 1 (λ i j. indicator (eqb (phaseOf a b n g (x + i) (y + j)) p)) block ∙ omega arith
+    where
+      block : (k m : ℕ)
+          → sumBelow (rowsOf a n) (λ j. sumBelow (columnsOf a n) (λ i. indicator (eqb (phaseOf a b n g (x + (k * columnsOf a n + i)) (y + (m * rowsOf a n + j))) p))) ≡ 1
+      block k m =
+          sum-same (rowsOf a n) _ _ (λ j _. sum-same (columnsOf a n) _ _ (λ i _. ap₂ (λ (c r : ℕ). indicator (eqb (phaseOf a b n g c r) p)) (sym (add-assoc x (k * columnsOf a n) i)) (sym (add-assoc y (m * rowsOf a n) j))))
+          ∙ phase-once (x + k * columnsOf a n) (y + m * rowsOf a n) p l

@@ -1,0 +1,102 @@
+-- The laws of specs/Laws.antt, proved: those over plain numbers (PhaseLaws, BrickLaws), at an admitted screen's numbers.
+-- Assumes nothing.
+use Prim.Native.Nat.{ℕ, _+_, _*_, _/_, _%_, _≤_, _<_}
+use mathlib.Core.Path.{_≡_, refl, sym, ap, ap₂, _∙_, subst}
+use mathlib.Core.List.{List, _++_}
+use native.Mathlib.Nat.{mul-one, mod-lt, le-trans, le-of-eq}
+use lib.ListN.{length, getD, drop, List·getD-append}
+use lib.Arith.{digits-lt, digits-div, digits-mod}
+use borrow.Author.Tests.{eq-eqb, le-leb}
+use Rattle.arith.specs.Sum.{sumBelow}
+use Rattle.arith.specs.Run.{upto}
+use Rattle.arith.proofs.RemainderLaws.{remainder-below}
+use Rattle.arith.proofs.RunLaws.{upto-length, upto-at, upto-over}
+use Rattle.screen.specs.declared.Screen.{Screen}
+use Rattle.screen.specs.Screens.{Admitted, Limits}
+use Rattle.screen.specs.Phase.{phase}
+use Rattle.screen.specs.Brick.{rows, columns, shift, phaseAtPlace, brickPhases, bufferRefusal, filled, TrueBrick, placeInBrick}
+use Rattle.screen.specs.Laws.{AdmittedWords, PhaseBelow, PhaseWords, PhaseOnly, StepsRight, StepRight, StepDown, BrickSize, PeriodRight, ShiftWords, ShiftOnly, ShiftLaw, FilledIsTrue, ReadFromBrick, times, EachPhaseOnce, EachPhaseTimes}
+use Rattle.screen.proofs.Refusals as Refusals
+use Rattle.screen.proofs.PhaseLaws as PhaseLaws
+use Rattle.screen.proofs.BrickLaws as BrickLaws
+
+pub admitted-words : AdmittedWords
+admitted-words = Refusals.admitted-words
+
+limits : {s : Screen} → Admitted s → Limits s
+limits {s} e = Refusals.admitted-words s .0 e
+
+-- ---- screen and phase
+
+pub phase-below : PhaseBelow
+phase-below s e = PhaseLaws.phase-below _ _ _ _ (limits e .cells-above)
+
+pub phase-words : PhaseWords
+phase-words s e = PhaseLaws.phase-words _ _ _ _ (limits e .cells-above)
+
+pub phase-only : PhaseOnly
+phase-only s e = PhaseLaws.phase-only _ _ _ _ (limits e .cells-above)
+
+pub steps-right : StepsRight
+steps-right s e = PhaseLaws.steps-right _ _ _ _ (limits e .cells-above)
+
+pub step-right : StepRight
+step-right s e = PhaseLaws.step-right _ _ _ _ (limits e .cells-above)
+
+pub step-down : StepDown
+step-down s e = PhaseLaws.row-back _ _ _ _ (limits e .cells-above)
+
+-- ---- brick
+
+pub brick-size : BrickSize
+brick-size s e =
+    let pos = limits e .cells-above in
+    (BrickLaws.columns-pos _ _ pos, BrickLaws.rows-pos _ _ pos, BrickLaws.brick-size _ _ pos)
+
+pub period-right : PeriodRight
+period-right s e x y = rw mul-one at (BrickLaws.period-times (s .a) (s .b) (s .n) (s .g) (limits e .cells-above) x y 1)
+
+pub shift-words : ShiftWords
+shift-words s e =
+    let pos = limits e .cells-above in
+    (BrickLaws.shift-below _ _ _ pos, BrickLaws.shift-words _ _ _ pos)
+
+pub shift-only : ShiftOnly
+shift-only s e = BrickLaws.shift-only _ _ _ (limits e .cells-above)
+
+pub shift-law : ShiftLaw
+shift-law s e = BrickLaws.shifted _ _ _ _ (limits e .cells-above)
+
+-- a place within the brick is one of its first N
+place-below : (s : Screen) → Admitted s → (u v : ℕ) → u < columns s → v < rows s → v * columns s + u < s .n
+place-below s e u v k l = rw (BrickLaws.brick-size (s .a) (s .n) (limits e .cells-above)) at (digits-lt l k)
+
+pub filled-is-true : FilledIsTrue
+unfolding brickPhases
+filled-is-true s buffer room e =
+    let l : ℕ = columns s in
+    let whole : filled s buffer ≡ brickPhases s ++ drop (s .n) buffer = Refusals.filled-whole s buffer (sym (Refusals.buffer-fits s (length buffer) e room)) in
+    rw whole (
+      le-trans room (le-of-eq (sym (upto-over _ buffer (s .n) room))),
+      λ u v k m. (List·getD-append (brickPhases s) (drop (s .n) buffer) 0 (v * l + u) (subst (λ (z : ℕ). v * l + u < z) (sym (upto-length _ (s .n))) (place-below s e u v k m))
+          ∙ upto-at _ (s .n) (v * l + u) (place-below s e u v k m)
+          ∙ ap₂ (λ (c r : ℕ). phase s c r) (digits-mod v k) (digits-div v k)),
+    )
+
+pub read-from-brick : ReadFromBrick
+unfolding placeInBrick
+read-from-brick s e buffer true-brick x y =
+    let pos = limits e .cells-above in
+    let u = remainder-below x (shift s * (y / rows s)) (columns s) (BrickLaws.columns-pos (s .a) (s .n) pos) in
+    let v = mod-lt y (BrickLaws.rows-pos (s .a) (s .n) pos) in
+    (true-brick e .1 _ _ u v ∙ BrickLaws.in-first-brick (s .a) (s .b) (s .n) (s .g) pos x y, place-below s e _ _ u v)
+
+-- ---- how often a phase occurs
+
+pub each-phase-once : EachPhaseOnce
+unfolding times
+each-phase-once s e = BrickLaws.phase-once _ _ _ _ (limits e .slope-lowest) (limits e .cells-above)
+
+pub each-phase-times : EachPhaseTimes
+unfolding times
+each-phase-times s e = BrickLaws.phase-times _ _ _ _ (limits e .slope-lowest) (limits e .cells-above)

@@ -1,0 +1,87 @@
+-- What `screen` promises of its definitions to the crates above. Each is a statement; proofs/Published.antt proves it.
+-- Assumes nothing.
+use Prim.Native.Nat.{ℕ, _+_, _*_, _%_, _≤_, _<_}
+use mathlib.Core.Path.{_≡_}
+use mathlib.Core.List.{List}
+use lib.ListN.{length, getD}
+use lib.Dec.{eqb}
+use Rattle.arith.specs.Sum.{sumBelow, indicator}
+use Rattle.screen.specs.declared.Screen.{Screen}
+use Rattle.screen.specs.Screens.{Admitted, Limits}
+use Rattle.screen.specs.Phase.{phase}
+use Rattle.screen.specs.Brick.{rows, columns, shift, filled, TrueBrick, placeInBrick}
+
+-- ---- screen and phase
+
+-- a screen is admitted exactly where its numbers keep the paper's limits
+abbrev pub AdmittedWords : Type 0
+AdmittedWords = (s : Screen) → (Admitted s → Limits s) × (Limits s → Admitted s)
+
+-- the phase is 0 to N − 1
+abbrev pub PhaseBelow : Type 0
+PhaseBelow = (s : Screen) → Admitted s → (x y : ℕ) → phase s x y < s .n
+
+-- and with b × y + g added back it leaves the remainder of a × x, which no other number below N does
+abbrev pub PhaseWords : Type 0
+PhaseWords = (s : Screen) → Admitted s → (x y : ℕ) → (phase s x y + (s .b * y + s .g)) % s .n ≡ s .a * x % s .n
+
+abbrev pub PhaseOnly : Type 0
+PhaseOnly = (s : Screen) → Admitted s → (x y p : ℕ) → p < s .n → (p + (s .b * y + s .g)) % s .n ≡ s .a * x % s .n → p ≡ phase s x y
+
+-- "Along a row it may be carried: add a, subtract N as often as needed": j columns on, j times a is added
+abbrev pub StepsRight : Type 0
+StepsRight = (s : Screen) → Admitted s → (x y j : ℕ) → phase s (x + j) y ≡ (phase s x y + s .a * j) % s .n
+
+-- one column on, by the remainder of a, so that N is subtracted at most once
+abbrev pub StepRight : Type 0
+StepRight = (s : Screen) → Admitted s → (x y : ℕ) → phase s (x + 1) y ≡ (phase s x y + s .a % s .n) % s .n
+
+-- one row down, b is subtracted
+abbrev pub StepDown : Type 0
+StepDown = (s : Screen) → Admitted s → (x y : ℕ) → (phase s x (y + 1) + s .b) % s .n ≡ phase s x y
+
+-- ---- brick
+
+-- a brick has N places, and at least one column and one row
+abbrev pub BrickSize : Type 0
+BrickSize = (s : Screen) → Admitted s → (0 < columns s) × (0 < rows s) × (rows s * columns s ≡ s .n)
+
+-- the period along a row is L
+abbrev pub PeriodRight : Type 0
+PeriodRight = (s : Screen) → Admitted s → (x y : ℕ) → phase s (x + columns s) y ≡ phase s x y
+
+-- "The shift S is the only number in 0 to L − 1 for which a × S and b × H leave the same remainder by N."
+abbrev pub ShiftWords : Type 0
+ShiftWords = (s : Screen) → Admitted s → (shift s < columns s) × (s .a * shift s % s .n ≡ s .b * rows s % s .n)
+
+abbrev pub ShiftOnly : Type 0
+ShiftOnly = (s : Screen) → Admitted s → (t : ℕ) → t < columns s → s .a * t % s .n ≡ s .b * rows s % s .n → t ≡ shift s
+
+-- "the phase at (x + S, y + H) is that at (x, y)"
+abbrev pub ShiftLaw : Type 0
+ShiftLaw = (s : Screen) → Admitted s → (x y : ℕ) → phase s (x + shift s) (y + rows s) ≡ phase s x y
+
+-- `fill_brick` makes a true brick
+abbrev pub FilledIsTrue : Type 0
+FilledIsTrue = (s : Screen) (buffer : List ℕ) → s .n ≤ length buffer → TrueBrick s (filled s buffer)
+
+-- the phase of (x, y) is read from a true brick at `placeInBrick`, one of its first N places
+abbrev pub ReadFromBrick : Type 0
+ReadFromBrick =
+    (s : Screen) → Admitted s → (buffer : List ℕ) → TrueBrick s buffer → (x y : ℕ)
+    → (getD buffer (placeInBrick s x y) 0 ≡ phase s x y) × (placeInBrick s x y < s .n)
+
+-- ---- how often a phase occurs
+
+-- how many cells of the w columns by r rows from (x, y) on have the phase p
+unfoldable pub times : Screen → ℕ → ℕ → ℕ → ℕ → ℕ → ℕ
+times s x y w r p = sumBelow r (λ j. sumBelow w (λ i. indicator (eqb (phase s (x + i) (y + j)) p)))
+
+-- in any L neighbouring columns by H neighbouring rows, wherever they begin, each phase occurs exactly once
+abbrev pub EachPhaseOnce : Type 0
+EachPhaseOnce = (s : Screen) → Admitted s → (x y p : ℕ) → p < s .n → times s x y (columns s) (rows s) p ≡ 1
+
+-- and in u × L columns by v × H rows exactly u × v times
+abbrev pub EachPhaseTimes : Type 0
+EachPhaseTimes =
+    (s : Screen) → Admitted s → (x y u v p : ℕ) → p < s .n → times s x y (u * columns s) (v * rows s) p ≡ u * v

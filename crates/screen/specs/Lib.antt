@@ -1,0 +1,5 @@
+pub mod Screens
+pub mod Phase
+pub mod Brick
+pub mod Laws
+pub mod Marks

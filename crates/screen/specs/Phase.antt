@@ -1,0 +1,30 @@
+-- Document 01, 'Screen and phase', second paragraph: the sheet, and the phase of a place.
+-- Assumes nothing: these are definitions.
+use Prim.Native.Nat.{ℕ, _+_, _*_}
+use mathlib.Core.Bool.{Bool, _&&_}
+use lib.Dec.{leb}
+use Rattle.arith.specs.Remainder.{remainderOf}
+use Rattle.arith.specs.Refusal.{unless, orElse, answered}
+use Rattle.screen.specs.declared.Screen.{Screen}
+use Rattle.screen.specs.declared.places.Place.{Place}
+use Rattle.screen.specs.Screens.{refusalOf}
+
+-- "The sheet has columns x from the left and rows y from the top, each 0 to 65,535." A window of w columns and r rows
+-- with its corner at (x, y) lies on it unless refusal 5 applies: "X + W or Y + R above 65,536".
+unfoldable pub onSheet : ℕ → ℕ → ℕ → ℕ → Bool
+onSheet x y w r = leb (x + w) 65536 && leb (y + r) 65536
+
+-- "The phase of (x, y) is the remainder, 0 to N − 1, of a × x − b × y − g by N."
+unfoldable pub phaseOf : ℕ → ℕ → ℕ → ℕ → ℕ → ℕ → ℕ
+phaseOf a b n g x y = remainderOf (a * x) (b * y + g) n
+
+abbrev pub phase : Screen → ℕ → ℕ → ℕ
+phase s x y = phaseOf (s .a) (s .b) (s .n) (s .g) x y
+
+-- refusals of a lone place: 1 to 4, then 5, "a lone place is a 1 by 1 window"
+unfoldable pub placeRefusal : Screen → ℕ → ℕ → ℕ
+placeRefusal s x y = orElse (refusalOf s) (unless (onSheet x y 1 1) 5 0)
+
+-- what `phase_at` answers
+unfoldable pub placeOf : Screen → ℕ → ℕ → Place
+placeOf s x y = record { refusal = placeRefusal s x y; phase = answered (placeRefusal s x y) (phase s x y) }
