@@ -1,14 +1,16 @@
 -- Laws of `firstBelow`: where some number below n passes, it is the first that does.
+-- Tests that agree have the same first number, and that of a test that goes on passing is the count of the numbers that fail.
 -- Assumes nothing.
 use Prim.Native.Nat.{ℕ, zero, suc, _+_, _≤_, _<_}
 use mathlib.Core.Path.{_≡_, refl, sym, ap, _∙_, subst}
-use mathlib.Core.Bool.{Bool, true, false, cond, true≢false}
+use mathlib.Core.Bool.{Bool, true, false, cond, not, true≢false}
 use mathlib.Core.Logic.{_⊎_, inl, inr}
-use native.Mathlib.Nat.{eq-or-lt-of-le}
+use native.Mathlib.Nat.{eq-or-lt-of-le, add-zero, add-suc}
+use native.Mathlib.Decide.{decLe}
 use native.Mathlib.Omega.{arith}
 use Rattle.arith.specs.First.{firstFrom, firstBelow}
 use Rattle.arith.specs.Sum.{sumBelow, indicator}
-use Rattle.arith.proofs.SumLaws.{sum-constant}
+use Rattle.arith.proofs.SumLaws.{sum-constant, sum-ones}
 
 -- What the search says of its answer r: it lies within the numbers searched or directly after them, none before it passes, and it passes if it is one of them.
 record Found (k i : ℕ) (passes : ℕ → Bool) (r : ℕ) : Type 0 where
@@ -83,3 +85,37 @@ module _ (n : ℕ) (passes : ℕ → Bool) (i : ℕ) (up-to : i ≤ firstBelow n
       go : (i ≡ firstBelow n passes) ⊎ (i < firstBelow n passes) → i ≡ firstBelow n passes
       go (inl q) = q
       go (inr h) = absurd (true≢false (sym e ∙ none-before n passes i h))
+
+-- THE NUMBER THAT PASSES WHILE NONE BEFORE IT DOES is the first
+pub first-is : (n : ℕ) (passes : ℕ → Bool) (j : ℕ) → j < n → passes j ≡ true → ((i : ℕ) → i < j → passes i ≡ false) → firstBelow n passes ≡ j
+first-is n passes j l e fails = go (decLe j (firstBelow n passes))
+  where
+    go : Dec (j ≤ firstBelow n passes) → firstBelow n passes ≡ j
+    go (yes up-to) = sym (first-reached n passes j up-to e)
+    go (no past) = absurd (true≢false (sym (first-passes n passes (first-found n passes j l e)) ∙ fails (firstBelow n passes) (omega arith)))
+
+-- a test that passes wherever another does has its first number no later
+no-later : (n : ℕ) (p q : ℕ → Bool) → ((i : ℕ) → i < n → q i ≡ true → p i ≡ true) → firstBelow n p ≤ firstBelow n q
+no-later n p q too = go (decLe (firstBelow n p) (firstBelow n q))
+  where
+    go : Dec (firstBelow n p ≤ firstBelow n q) → firstBelow n p ≤ firstBelow n q
+    go (yes h) = h
+    go (no h) =
+        let l : firstBelow n q < n = omega (arith, first-within n p) in
+        absurd (true≢false (sym (too (firstBelow n q) l (first-passes n q l)) ∙ none-before n p (firstBelow n q) (omega arith)))
+
+-- tests that agree below n have the same first number
+pub first-same : (n : ℕ) (p q : ℕ → Bool) → ((i : ℕ) → i < n → p i ≡ q i) → firstBelow n p ≡ firstBelow n q
+first-same n p q same = omega (arith, no-later n p q (λ i l e. same i l ∙ e), no-later n q p (λ i l e. sym (same i l) ∙ e))
+
+-- where a test that passes goes on passing, the first to pass is as far as there are numbers that fail
+pub first-counts : (n : ℕ) (passes : ℕ → Bool) → ((i : ℕ) → passes i ≡ true → passes (suc i) ≡ true) → firstBelow n passes ≡ sumBelow n (λ i. indicator (not (passes i)))
+first-counts n passes lasts =
+    sym
+    (sum-ones n (firstBelow n passes) (λ i. indicator (not (passes i))) (first-within n passes)
+    (λ i l. ap (λ (b : Bool). indicator (not b)) (none-before n passes i l))
+    (λ i l. ap (λ (b : Bool). indicator (not b)) (onwards (firstBelow n passes) (first-passes n passes (omega arith)) i)))
+  where
+    onwards : (a : ℕ) → passes a ≡ true → (k : ℕ) → passes (a + k) ≡ true
+    onwards a e zero = rw add-zero e
+    onwards a e (suc k) = rw add-suc (lasts (a + k) (onwards a e k))

@@ -5,3 +5,5 @@ pub mod Residues
 pub mod FirstLaws
 pub mod RunLaws
 pub mod RefusalLaws
+pub mod RoundingLaws
+pub mod StepLaws

@@ -3,11 +3,12 @@
 use Prim.Native.Nat.{ℕ, suc}
 use mathlib.Core.Path.{_≡_, refl, sym, ap, _∙_}
 use mathlib.Core.Bool.{Bool, true, false, _&&_, cond, false≢true}
+use mathlib.Core.List.{List, _++_}
 use native.Mathlib.Nat.{suc-ne-zero}
 use native.Mathlib.Decide.{ℕ-discrete}
-use lib.Dec.{eqb}
+use lib.ListN.{length, drop}
 use borrow.Author.Tests.{eq-eqb, ne-eqb}
-use Rattle.arith.specs.Refusal.{unless, orElse, answered}
+use Rattle.arith.specs.Refusal.{unless, orElse, answered, written}
 
 -- two tests that pass together each pass
 pub both-pass : (t u : Bool) → (t && u) ≡ true → (t ≡ true) × (u ≡ true)
@@ -31,6 +32,13 @@ module _ (refusal : ℕ) (number : ℕ) where
 
   pub answered-whole : refusal ≡ 0 → answered refusal number ≡ number
   answered-whole e = ap (λ (t : Bool). cond t number 0) (eq-eqb refusal 0 e)
+
+module _ (refusal : ℕ) (run memory : List ℕ) where
+  pub written-none : (refusal ≡ 0 → ⊥) → written refusal run memory ≡ memory
+  written-none h = ap (λ (t : Bool). cond t (run ++ drop (length run) memory) memory) (ne-eqb refusal 0 h)
+
+  pub written-whole : (n : ℕ) → refusal ≡ 0 → length run ≡ n → written refusal run memory ≡ run ++ drop n memory
+  written-whole n e l = ap (λ (t : Bool). cond t (run ++ drop (length run) memory) memory) (eq-eqb refusal 0 e) ∙ rw l
 
 -- a call that is not refused is refused neither at first nor later
 pub or-none : (refusal later : ℕ) → orElse refusal later ≡ 0 → (refusal ≡ 0) × (later ≡ 0)

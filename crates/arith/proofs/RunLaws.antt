@@ -5,8 +5,8 @@ use Prim.Native.Nat.{ℕ, zero, suc, _+_, _≤_, _<_}
 use native.Mathlib.Numerals.{add-one}
 use native.Mathlib.Decide.{decLt}
 use native.Mathlib.Omega.{arith}
-use mathlib.Core.List.{List, [], _∷_, _++_}
-use lib.ListN.{length, getD, set, drop, length-append, length-drop, List·getD-append}
+use mathlib.Core.List.{List, [], _∷_, _++_, append-nil}
+use lib.ListN.{length, getD, set, drop, length-append, length-drop, drop-of-length-le, List·getD-append}
 use lib.Seq.{set-at, getD-at, drop-cons, append-snoc}
 use Rattle.arith.specs.Run.{upto}
 
@@ -27,6 +27,12 @@ upto-at f (suc n) k h = go (decLt k n) (upto-at f n k)
         let e : k ≡ n = omega arith in
         rw e (getD-at (upto f n) (f n) [] 0 n (upto-length f n))
 
+-- the elements decide the list
+pub upto-same : (f g : ℕ → ℕ) (n : ℕ) → ((i : ℕ) → i < n → f i ≡ g i) → upto f n ≡ upto g n
+unfolding upto
+upto-same f g zero h = refl
+upto-same f g (suc n) h = rw (upto-same f g n (λ i l. h i (omega arith)), h n (omega arith))
+
 -- a store at i of a list whose first i places hold the first i elements: one element more
 pub upto-store : (f : ℕ → ℕ) (l : List ℕ) (i : ℕ) → i < length l → set (upto f i ++ drop i l) i (f i) ≡ upto f (i + 1) ++ drop (i + 1) l
 unfolding upto
@@ -37,3 +43,31 @@ upto-store f l i h =
 -- and the length of such a list
 pub upto-over : (f : ℕ → ℕ) (l : List ℕ) (i : ℕ) → i ≤ length l → length (upto f i ++ drop i l) ≡ length l
 upto-over f l i h = simp (length-append, upto-length, length-drop) (omega arith)
+
+-- ---- a loop that writes a run from its first place on
+
+-- the first i places of l₀ have become the first i elements, and the others are as they were
+pub record Filling (f : ℕ → ℕ) (l₀ l : List ℕ) (i : ℕ) : Type 0 where
+  pub within : i ≤ length l₀
+  pub cells : l ≡ upto f i ++ drop i l₀
+
+pub filling-start : (f : ℕ → ℕ) (l : List ℕ) → Filling f l l 0
+unfolding upto
+filling-start f l = record { within = omega arith; cells = refl }
+
+module _ {f : ℕ → ℕ} {l₀ l : List ℕ} {i : ℕ} (r : Filling f l₀ l i) where
+  pub filling-length : length l ≡ length l₀
+  filling-length = rw (r .cells) (upto-over f l₀ i (r .within))
+
+  pub filling-store : (v : ℕ) → i < length l₀ → v ≡ f i → Filling f l₀ (set l i v) (i + 1)
+  filling-store v h e = record { within = omega arith; cells = rw (r .cells, e) (upto-store f l₀ i h) }
+
+  -- at the end of the list
+  pub filling-whole : (n : ℕ) → length l₀ ≡ n → n ≤ i → l ≡ upto f n
+  filling-whole n e h =
+      let q : i ≡ n = omega (arith, r .within) in
+      r .cells ∙ rw (drop-of-length-le l₀ {i = i} (omega arith), append-nil) (ap (upto f) q)
+
+  -- an element that is written already
+  pub filling-at : (k : ℕ) → k < i → getD l k 0 ≡ f k
+  filling-at k h = rw (r .cells) (List·getD-append (upto f i) (drop i l₀) 0 k (omega (arith, upto-length f i)) ∙ upto-at f i k h)

@@ -1,14 +1,14 @@
--- Laws of `sumBelow`: equal terms, constants, splitting, sums of sums, and counting by indicators.
+-- Laws of `sumBelow`: equal terms, constants, splitting, differences, multiples, shifting, sums of sums, and counting by indicators.
 -- Assumes nothing.
-use Prim.Native.Nat.{ℕ, zero, suc, _+_, _*_, _/_, _%_, _≤_, _<_}
+use Prim.Native.Nat.{ℕ, zero, suc, _+_, _-_, _*_, _/_, _%_, _≤_, _<_}
 use mathlib.Core.Path.{_≡_, refl, sym, ap, ap₂, _∙_}
 use mathlib.Core.Logic.{_⊎_, inl, inr, _≢_}
-use native.Mathlib.Nat.{le-refl, le-step, le-of-suc-le-suc, not-suc-le-zero, eq-or-lt-of-le, ne-of-lt, add-zero, add-suc, zero-mul, suc-mul}
+use native.Mathlib.Nat.{le-refl, le-step, le-of-suc-le-suc, not-suc-le-zero, eq-or-lt-of-le, ne-of-lt, add-zero, add-suc, sub-add-cancel, add-sub-of-le, zero-mul, suc-mul}
 use native.Mathlib.Decide.{ℕ-discrete}
 use native.Mathlib.Omega.{arith}
-use lib.Dec.{eqb}
+use lib.Dec.{eqb, ltb}
 use lib.Arith.{digits-div, digits-mod}
-use borrow.Author.Tests.{eq-eqb, ne-eqb}
+use borrow.Author.Tests.{eq-eqb, ne-eqb, lt-ltb, le-ltb}
 use Rattle.arith.specs.Sum.{sumBelow, indicator}
 
 -- ---- the indicator of an equation
@@ -43,6 +43,36 @@ unfolding sumBelow
 sum-plus zero f g = refl
 sum-plus (suc n) f g = omega (arith, sum-plus n f g)
 
+-- A SUM OF DIFFERENCES, where none is below 0
+pub sum-minus : (n : ℕ) (f g : ℕ → ℕ) → ((i : ℕ) → i < n → g i ≤ f i) → sumBelow n (λ i. f i - g i) ≡ sumBelow n f - sumBelow n g
+sum-minus n f g h = omega (arith, sym (sum-plus n (λ i. f i - g i) g) ∙ sum-same n _ f (λ i l. sub-add-cancel (h i l)))
+
+-- A SUM OF MULTIPLES by one number
+pub sum-scaled : (n c : ℕ) (f : ℕ → ℕ) → sumBelow n (λ i. c * f i) ≡ c * sumBelow n f
+unfolding sumBelow
+sum-scaled zero c f = omega arith
+sum-scaled (suc n) c f = omega (arith, sum-scaled n c f)
+
+-- A SUM SHIFTED by one place loses its first term and gains the one after its last
+pub sum-shift : (n : ℕ) (f : ℕ → ℕ) → sumBelow n (λ i. f (suc i)) + f 0 ≡ sumBelow n f + f n
+unfolding sumBelow
+sum-shift zero f = refl
+sum-shift (suc n) f = omega (arith, sum-shift n f)
+
+-- fewer terms add up to no more
+pub sum-fewer : (m n : ℕ) (f : ℕ → ℕ) → m ≤ n → sumBelow m f ≤ sumBelow n f
+sum-fewer m n f h = omega (arith, sum-split m (n - m) f, ap (λ (k : ℕ). sumBelow k f) (add-sub-of-le h))
+
+-- A SUM WITH ONE TERM that may be above 0
+pub sum-single : (n k : ℕ) (f : ℕ → ℕ) → k < n → ((i : ℕ) → i < n → i ≢ k → f i ≡ 0) → sumBelow n f ≡ f k
+unfolding sumBelow
+sum-single zero k f l none = absurd (not-suc-le-zero l)
+sum-single (suc n) k f l none = go (sum-single n k f) (eq-or-lt-of-le (le-of-suc-le-suc l))
+  where
+    go : (k < n → ((i : ℕ) → i < n → i ≢ k → f i ≡ 0) → sumBelow n f ≡ f k) → (k ≡ n) ⊎ (k < n) → sumBelow n f + f n ≡ f k
+    go ih (inl e) = omega (arith, sum-constant n 0 f (λ i h. none i (le-step h) (λ q. ne-of-lt h (q ∙ e))), ap f e)
+    go ih (inr h) = omega (arith, ih h (λ i m. none i (le-step m)), none n (le-refl (suc n)) (λ q. ne-of-lt h (sym q)))
+
 sum-bounded : (n : ℕ) (f : ℕ → ℕ) → ((i : ℕ) → i < n → f i ≤ 1) → sumBelow n f ≤ n
 unfolding sumBelow
 sum-bounded zero f h = le-refl 0
@@ -62,6 +92,14 @@ pub sum-blocks : (m n : ℕ) (f : ℕ → ℕ) → sumBelow (m * n) f ≡ sumBel
 unfolding sumBelow
 sum-blocks zero n f = rw zero-mul
 sum-blocks (suc m) n f = rw (suc-mul, sum-split (m * n) n) (ap (λ (s : ℕ). s + sumBelow n (λ j. f (m * n + j))) (sum-blocks m n f))
+
+-- one sum over k runs that follow each other, run i having size i terms
+pub sum-runs : (k : ℕ) (size : ℕ → ℕ) (f : ℕ → ℕ) → sumBelow (sumBelow k size) f ≡ sumBelow k (λ i. sumBelow (size i) (λ q. f (sumBelow i size + q)))
+unfolding sumBelow
+sum-runs zero size f = refl
+sum-runs (suc k) size f =
+    sum-split (sumBelow k size) (size k) f
+    ∙ ap (λ (s : ℕ). s + sumBelow (size k) (λ q. f (sumBelow k size + q))) (sum-runs k size f)
 
 -- a sum over the places (i, j) of m rows of n is one sum over their numbers i * n + j
 pub sum-places : (m n : ℕ) (F : ℕ → ℕ → ℕ) → sumBelow m (λ i. sumBelow n (λ j. F i j)) ≡ sumBelow (m * n) (λ k. F (k / n) (k % n))
@@ -85,6 +123,19 @@ sum-window u v l h c F block =
         ∙ sum-constant u c _ (λ i k. block i j)
 
 -- ---- counting
+
+-- where the first u of n terms are 1 and the others 0, the sum is u
+pub sum-ones : (n u : ℕ) (f : ℕ → ℕ) → u ≤ n → ((i : ℕ) → i < u → f i ≡ 1) → ((i : ℕ) → i < n - u → f (u + i) ≡ 0) → sumBelow n f ≡ u
+sum-ones n u f h ones none =
+    let parts : n ≡ u + (n - u) = omega arith in
+    ap (λ (m : ℕ). sumBelow m f) parts
+    ∙ sum-split u (n - u) f
+    ∙ omega (arith, sum-constant u 1 f ones, sum-constant (n - u) 0 (λ i. f (u + i)) none)
+
+-- as many numbers below n are below u as u says
+pub sum-below : (n u : ℕ) → u ≤ n → sumBelow n (λ q. indicator (ltb q u)) ≡ u
+sum-below n u h =
+    sum-ones n u (λ q. indicator (ltb q u)) h (λ q l. ap indicator (lt-ltb q u l)) (λ q l. ap indicator (le-ltb (u + q) u (omega arith)))
 
 -- a number below n is met once among the numbers below n
 pub sum-met : (n v : ℕ) → v < n → sumBelow n (λ t. indicator (eqb v t)) ≡ 1

@@ -4,3 +4,4 @@ pub mod Sum
 pub mod First
 pub mod Run
 pub mod Refusal
+pub mod Rounding

@@ -1,7 +1,10 @@
--- How refusals combine: "The lowest number that applies is returned, tallies and any other returned numbers are 0."
+-- How refusals combine, and what they leave: "The lowest number that applies is returned, tallies and any other returned numbers
+-- are 0 .., lent memory stays untouched."
 -- Assumes nothing: these are definitions.
 use Prim.Native.Nat.{ℕ}
 use mathlib.Core.Bool.{Bool, cond}
+use mathlib.Core.List.{List, _++_}
+use lib.ListN.{length, drop}
 use lib.Dec.{eqb}
 
 -- a test that a call makes: its number where the test fails, and else what the later tests say
@@ -15,3 +18,8 @@ orElse refusal later = cond (eqb refusal 0) later refusal
 -- a returned number: as it is where the call is not refused, and 0 where it is
 abbrev pub answered : ℕ → ℕ → ℕ
 answered refusal number = cond (eqb refusal 0) number 0
+
+-- Memory that is lent to a call, as the call leaves it: a run from the first place on and what stood after it; all as it was
+-- where the call is refused.
+abbrev pub written : ℕ → List ℕ → List ℕ → List ℕ
+written refusal run memory = cond (eqb refusal 0) (run ++ drop (length run) memory) memory

@@ -15,7 +15,7 @@ use Rattle.screen.specs.declared.Screen.{Screen}
 use Rattle.screen.specs.Screens.{Admitted, Limits}
 use Rattle.screen.specs.Phase.{phase}
 use Rattle.screen.specs.Brick.{rows, columns, shift, phaseAtPlace, brickPhases, bufferRefusal, filled, TrueBrick, placeInBrick}
-use Rattle.screen.specs.Laws.{AdmittedWords, PhaseBelow, PhaseWords, PhaseOnly, StepsRight, StepRight, StepDown, BrickSize, PeriodRight, ShiftWords, ShiftOnly, ShiftLaw, FilledIsTrue, ReadFromBrick, times, EachPhaseOnce, EachPhaseTimes}
+use Rattle.screen.specs.Laws.{AdmittedWords, PhaseBelow, PhaseWords, PhaseOnly, StepsRight, StepRight, StepDown, BrickSize, PeriodRight, ShiftWords, ShiftOnly, ShiftLaw, FilledIsTrue, ReadFromBrick, BufferRefused, times, EachPhaseOnce, EachPhaseTimes}
 use Rattle.screen.proofs.Refusals as Refusals
 use Rattle.screen.proofs.PhaseLaws as PhaseLaws
 use Rattle.screen.proofs.BrickLaws as BrickLaws
@@ -90,6 +90,9 @@ read-from-brick s e buffer true-brick x y =
     let u = remainder-below x (shift s * (y / rows s)) (columns s) (BrickLaws.columns-pos (s .a) (s .n) pos) in
     let v = mod-lt y (BrickLaws.rows-pos (s .a) (s .n) pos) in
     (true-brick e .1 _ _ u v ∙ BrickLaws.in-first-brick (s .a) (s .b) (s .n) (s .g) pos x y, place-below s e _ _ u v)
+
+pub buffer-tests : BufferRefused
+buffer-tests s places = (Refusals.buffer-refused s places, Refusals.buffer-short s places, Refusals.buffer-fits s places)
 
 -- ---- how often a phase occurs
 

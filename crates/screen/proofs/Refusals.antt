@@ -6,8 +6,9 @@ use mathlib.Core.Bool.{Bool, true, false, not}
 use mathlib.Core.List.{List, _++_}
 use native.Mathlib.Omega.{arith}
 use lib.ListN.{length, drop}
-use borrow.Author.Tests.{not-true, not-false, leb-true, ltb-true, eqb-true, le-leb, lt-leb, lt-ltb, eq-eqb, ne-eqb}
-use Rattle.arith.proofs.RefusalLaws.{both-pass, unless-none, refused-first, refused-later, answered-none, answered-whole, or-none}
+use borrow.Author.Tests.{not-true, not-false, leb-true, ltb-true, eqb-true, le-leb, lt-leb, lt-ltb, eq-eqb}
+use Rattle.arith.proofs.RefusalLaws.{both-pass, unless-none, refused-first, refused-later, answered-none, answered-whole, written-none, written-whole, or-none}
+use Rattle.arith.proofs.RunLaws.{upto-length}
 use Rattle.screen.specs.declared.Screen.{Screen}
 use Rattle.screen.specs.declared.places.Place.{Place}
 use Rattle.screen.specs.declared.bricks.Brick.{Brick}
@@ -158,8 +159,8 @@ module _ (s : Screen) where
 module _ (s : Screen) (buffer : List ℕ) where
   pub filled-none : (bufferRefusal s (length buffer) ≡ 0 → ⊥) → buffer ≡ filled s buffer
   unfolding filled
-  filled-none h = rw (ne-eqb _ _ h)
+  filled-none h = sym (written-none (bufferRefusal s (length buffer)) (brickPhases s) buffer h)
 
   pub filled-whole : bufferRefusal s (length buffer) ≡ 0 → filled s buffer ≡ brickPhases s ++ drop (s .n) buffer
-  unfolding filled
-  filled-whole e = rw (eq-eqb _ _ e)
+  unfolding filled brickPhases
+  filled-whole e = written-whole (bufferRefusal s (length buffer)) (brickPhases s) buffer (s .n) e (upto-length _ (s .n))

@@ -2,15 +2,14 @@
 -- Assumes nothing: these are definitions.
 use Prim.Native.Nat.{ℕ, _+_, _*_, _/_, _%_, _≤_, _<_}
 use mathlib.Core.Path.{_≡_}
-use mathlib.Core.Bool.{cond}
-use mathlib.Core.List.{List, _++_}
-use lib.ListN.{length, getD, drop}
+use mathlib.Core.List.{List}
+use lib.ListN.{length, getD}
 use lib.Dec.{leb, eqb}
 use Rattle.arith.specs.Gcd.{gcdOf}
 use Rattle.arith.specs.Remainder.{remainderOf}
 use Rattle.arith.specs.First.{firstBelow}
 use Rattle.arith.specs.Run.{upto}
-use Rattle.arith.specs.Refusal.{unless, orElse, answered}
+use Rattle.arith.specs.Refusal.{unless, orElse, answered, written}
 use Rattle.screen.specs.declared.Screen.{Screen}
 use Rattle.screen.specs.declared.bricks.Brick.{Brick}
 use Rattle.screen.specs.Screens.{refusalOf, Admitted}
@@ -62,7 +61,7 @@ bufferRefusal s places = orElse (refusalOf s) (unless (leb (s .n) places) 8 0)
 
 -- what `fill_brick` leaves in a buffer: the phases, "and places from N on stay untouched"; all of it as it was where the call is refused
 unfoldable pub filled : Screen → List ℕ → List ℕ
-filled s buffer = cond (eqb (bufferRefusal s (length buffer)) 0) (brickPhases s ++ drop (s .n) buffer) buffer
+filled s buffer = written (bufferRefusal s (length buffer)) (brickPhases s) buffer
 
 -- "Its true brick is any brick buffer of at least N places whose first N hold the phases that the section on the brick
 -- puts there; later places don't matter, and for a screen that isn't admitted any buffer serves."

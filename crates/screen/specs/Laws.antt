@@ -7,9 +7,9 @@ use lib.ListN.{length, getD}
 use lib.Dec.{eqb}
 use Rattle.arith.specs.Sum.{sumBelow, indicator}
 use Rattle.screen.specs.declared.Screen.{Screen}
-use Rattle.screen.specs.Screens.{Admitted, Limits}
+use Rattle.screen.specs.Screens.{refusalOf, Admitted, Limits}
 use Rattle.screen.specs.Phase.{phase}
-use Rattle.screen.specs.Brick.{rows, columns, shift, filled, TrueBrick, placeInBrick}
+use Rattle.screen.specs.Brick.{rows, columns, shift, bufferRefusal, filled, TrueBrick, placeInBrick}
 
 -- ---- screen and phase
 
@@ -70,6 +70,14 @@ abbrev pub ReadFromBrick : Type 0
 ReadFromBrick =
     (s : Screen) → Admitted s → (buffer : List ℕ) → TrueBrick s buffer → (x y : ℕ)
     → (getD buffer (placeInBrick s x y) 0 ≡ phase s x y) × (placeInBrick s x y < s .n)
+
+-- a buffer is refused as its screen is, then as 8 where it is too short
+abbrev pub BufferRefused : Type 0
+BufferRefused =
+    (s : Screen) (places : ℕ)
+    → ((refusalOf s ≡ 0 → ⊥) → refusalOf s ≡ bufferRefusal s places)
+    × (Admitted s → places < s .n → 8 ≡ bufferRefusal s places)
+    × (Admitted s → s .n ≤ places → 0 ≡ bufferRefusal s places)
 
 -- ---- how often a phase occurs
 

@@ -1,0 +1,7 @@
+pub mod Published
+pub mod Worked
+mod RunningLaws
+mod SubscreenLaws
+mod ThresholdLaws
+mod ThresholdLoop
+mod LevelLaws

@@ -1,0 +1,68 @@
+-- The laws of specs/Laws.antt, proved.
+-- Assumes nothing.
+use mathlib.Core.Path.{_≡_}
+use Rattle.screen.specs.declared.Screen.{Screen}
+use Rattle.separation.specs.declared.Separation.{Separation}
+use Rattle.separation.specs.declared.Inks.{Inks}
+use Rattle.separation.specs.Laws.{InkValues}
+use Rattle.separation.proofs.Published.{weights-add-up}
+use Rattle.quantiser.specs.Running.{running}
+use Rattle.quantiser.specs.Laws.{RunningRises, RunningEnds, CountsAddUp, CountShare, SubscreensAddUp, SubscreenPlaces, PhasePlace, ColorantBelow, PhasesInSubscreen, SubscreenShare, PhasesInAll, ThresholdLaw, ThresholdWithin, ThresholdOnce, ColorantRank}
+use Rattle.quantiser.proofs.RunningLaws as RunningLaws
+use Rattle.quantiser.proofs.SubscreenLaws as SubscreenLaws
+use Rattle.quantiser.proofs.ThresholdLaws as ThresholdLaws
+
+-- ---- running sums and counts
+
+pub running-rises : RunningRises
+running-rises = RunningLaws.running-rises
+
+pub running-ends : RunningEnds
+running-ends s ok sep inks v = RunningLaws.running-ends s sep inks (weights-add-up sep inks v)
+
+pub counts-add-up : CountsAddUp
+counts-add-up s ok sep inks v = RunningLaws.counts-add-up s sep inks (weights-add-up sep inks v)
+
+pub count-share : CountShare
+count-share s ok sep inks v j = (RunningLaws.count-low s sep inks j, RunningLaws.count-high s sep inks j)
+
+-- ---- subscreens
+
+pub subscreens-add-up : SubscreensAddUp
+subscreens-add-up = SubscreenLaws.sizes-add-up
+
+pub subscreen-places : SubscreenPlaces
+subscreen-places = SubscreenLaws.place-of
+
+pub phase-place : PhasePlace
+phase-place = SubscreenLaws.phase-place
+
+-- ---- colorants of phases
+
+pub colorant-below : ColorantBelow
+colorant-below s ok sep inks v = SubscreenLaws.colorant-below s ok sep inks (running-ends s ok sep inks v)
+
+pub phases-in-subscreen : PhasesInSubscreen
+phases-in-subscreen s ok sep inks v = SubscreenLaws.phases-in s ok sep inks (running-ends s ok sep inks v)
+
+pub subscreen-share : SubscreenShare
+subscreen-share s ok sep inks v k j l h =
+    let ends = running-ends s ok sep inks v in
+    (SubscreenLaws.share-low s ok sep inks ends k j l h, SubscreenLaws.share-high s ok sep inks ends k j l h)
+
+pub phases-in-all : PhasesInAll
+phases-in-all s ok sep inks v = SubscreenLaws.phases-in-all s ok sep inks (running-ends s ok sep inks v)
+
+-- ---- thresholds
+
+pub threshold-law : ThresholdLaw
+threshold-law s ok sep inks v = ThresholdLaws.threshold-law s sep inks
+
+pub threshold-within : ThresholdWithin
+threshold-within = ThresholdLaws.threshold-within
+
+pub threshold-once : ThresholdOnce
+threshold-once = ThresholdLaws.threshold-once
+
+pub colorant-rank : ColorantRank
+colorant-rank s ok sep inks v = ThresholdLaws.colorant-rank s sep inks ok (running-ends s ok sep inks v)

@@ -1,0 +1,103 @@
+-- What `quantiser` promises of its definitions to the crates above. Each is a statement; proofs/Published.antt proves it.
+-- Assumes nothing.
+use Prim.Native.Nat.{ℕ, suc, _+_, _-_, _*_, _/_, _≤_, _<_}
+use mathlib.Core.Path.{_≡_}
+use lib.Dec.{eqb, leb}
+use Rattle.arith.specs.Sum.{sumBelow, indicator}
+use Rattle.arith.specs.First.{firstBelow}
+use Rattle.arith.specs.Rounding.{roundedUp, before}
+use Rattle.screen.specs.declared.Screen.{Screen}
+use Rattle.screen.specs.Screens.{Admitted}
+use Rattle.separation.specs.declared.Separation.{Separation}
+use Rattle.separation.specs.declared.Inks.{Inks}
+use Rattle.separation.specs.Weights.{weight, scaleOf}
+use Rattle.separation.specs.Laws.{InkValues}
+use Rattle.quantiser.specs.Running.{running, count}
+use Rattle.quantiser.specs.Subscreens.{subscreenSize, subscreenStart, subscreenOf, distanceOf, fillUpTo, colorantAt, colorantOf, phasesIn, phasesOf}
+use Rattle.quantiser.specs.Leaves.{thresholdAt, thresholdOf, levelsOf, rank}
+
+-- a statement of every admitted screen, separation and ink values
+abbrev pub Always : (Screen → Separation → Inks → Type 0) → Type 0
+Always P = (s : Screen) → Admitted s → (sep : Separation) (inks : Inks) → InkValues inks → P s sep inks
+
+-- ---- running sums and counts
+
+-- C never falls, and C(7) = N
+abbrev pub RunningRises : Type 0
+RunningRises = (s : Screen) (sep : Separation) (inks : Inks) (j : ℕ) → running s sep inks j ≤ running s sep inks (suc j)
+
+abbrev pub RunningEnds : Type 0
+RunningEnds = Always (λ s sep inks. running s sep inks 7 ≡ s .n)
+
+abbrev pub CountsAddUp : Type 0
+CountsAddUp = Always (λ s sep inks. sumBelow 8 (count s sep inks) ≡ s .n)
+
+-- "counts are shares rounded down or up", "a colorant's share is N × weight / D"
+abbrev pub CountShare : Type 0
+CountShare =
+    Always
+    (λ s sep inks. (j : ℕ)
+    → (s .n * weight sep inks j / scaleOf sep ≤ count s sep inks j) × (count s sep inks j ≤ roundedUp (s .n * weight sep inks j) (scaleOf sep)))
+
+-- ---- subscreens
+
+-- the subscreens' sizes add up to N
+abbrev pub SubscreensAddUp : Type 0
+SubscreensAddUp = (s : Screen) → Admitted s → subscreenStart s (s .k) ≡ s .n
+
+-- they follow each other: the phase at distance q in subscreen k is the q-th from its start, and every phase below N is such a one
+abbrev pub SubscreenPlaces : Type 0
+SubscreenPlaces =
+    (s : Screen) → Admitted s → (k q : ℕ) → k < s .k → q < subscreenSize s k
+    → (subscreenOf s (subscreenStart s k + q) ≡ k) × (distanceOf s (subscreenStart s k + q) ≡ q)
+
+abbrev pub PhasePlace : Type 0
+PhasePlace =
+    (s : Screen) → Admitted s → (p : ℕ) → p < s .n
+    → (subscreenOf s p < s .k) × (distanceOf s p < subscreenSize s (subscreenOf s p)) × (subscreenStart s (subscreenOf s p) + distanceOf s p ≡ p)
+
+-- ---- colorants of phases
+
+-- every phase below N has a colorant
+abbrev pub ColorantBelow : Type 0
+ColorantBelow = Always (λ s sep inks. (p : ℕ) → p < s .n → colorantOf s sep inks p < 8)
+
+-- in subscreen k exactly (C(j) + k) / K − (C(j − 1) + k) / K phases have colorant j
+abbrev pub PhasesInSubscreen : Type 0
+PhasesInSubscreen =
+    Always
+    (λ s sep inks. (k j : ℕ) → k < s .k → j < 8
+    → phasesIn s sep inks k j ≡ fillUpTo s sep inks k j - before (fillUpTo s sep inks k) j)
+
+-- "subscreens split them evenly": that is between count / K rounded down and rounded up
+abbrev pub SubscreenShare : Type 0
+SubscreenShare =
+    Always
+    (λ s sep inks. (k j : ℕ) → k < s .k → j < 8
+    → (count s sep inks j / s .k ≤ phasesIn s sep inks k j) × (phasesIn s sep inks k j ≤ roundedUp (count s sep inks j) (s .k)))
+
+-- over all phases exactly the count have colorant j
+abbrev pub PhasesInAll : Type 0
+PhasesInAll = Always (λ s sep inks. (j : ℕ) → j < 8 → phasesOf s sep inks j ≡ count s sep inks j)
+
+-- ---- thresholds
+
+-- a cell has the first colorant whose running sum is at least its threshold
+abbrev pub ThresholdLaw : Type 0
+ThresholdLaw =
+    Always
+    (λ s sep inks. (k q : ℕ) → k < s .k
+    → colorantAt s sep inks k q ≡ firstBelow 8 (λ j. leb (thresholdAt s k q) (running s sep inks j)))
+
+-- the thresholds of the phases are 1 to N, each exactly once
+abbrev pub ThresholdWithin : Type 0
+ThresholdWithin = (s : Screen) → Admitted s → (p : ℕ) → p < s .n → (1 ≤ thresholdOf s p) × (thresholdOf s p ≤ s .n)
+
+abbrev pub ThresholdOnce : Type 0
+ThresholdOnce =
+    (s : Screen) → Admitted s → (t : ℕ) → 1 ≤ t → t ≤ s .n → sumBelow (s .n) (λ p. indicator (eqb (thresholdOf s p) t)) ≡ 1
+
+-- a phase's colorant is the rank of its threshold, scaled by 2 × D, among the levels
+abbrev pub ColorantRank : Type 0
+ColorantRank =
+    Always (λ s sep inks. (p : ℕ) → p < s .n → rank (levelsOf s sep inks) (2 * scaleOf sep * thresholdOf s p) ≡ colorantOf s sep inks p)

@@ -1,0 +1,34 @@
+-- Document 01, 'Quantised counts and subscreens', first paragraph: running sums and counts.
+-- Assumes nothing: these are definitions.
+use Prim.Native.Nat.{ℕ, suc, _+_, _-_, _*_, _/_}
+use mathlib.Core.List.{List}
+use Rattle.arith.specs.Sum.{sumBelow}
+use Rattle.arith.specs.Run.{upto}
+use Rattle.arith.specs.Rounding.{before}
+use Rattle.arith.specs.Refusal.{answered}
+use Rattle.screen.specs.declared.Screen.{Screen}
+use Rattle.screen.specs.Screens.{refusalOf}
+use Rattle.separation.specs.declared.Separation.{Separation}
+use Rattle.separation.specs.declared.Inks.{Inks}
+use Rattle.separation.specs.Weights.{weight, scaleOf}
+use Rattle.quantiser.specs.declared.answer.Counts.{Counts}
+
+-- "Let A(j) be the sum of weights 0 to j."
+unfoldable pub weightUpTo : Separation → Inks → ℕ → ℕ
+weightUpTo sep inks j = sumBelow (suc j) (weight sep inks)
+
+-- "C(j) = (2 × N × A(j) + D) / (2 × D) rounded down." What is divided has a name of its own, since a renderer compares it
+-- instead of dividing (Leaves.antt).
+unfoldable pub level : Screen → Separation → Inks → ℕ → ℕ
+level s sep inks j = 2 * s .n * weightUpTo sep inks j + scaleOf sep
+
+unfoldable pub running : Screen → Separation → Inks → ℕ → ℕ
+running s sep inks j = level s sep inks j / (2 * scaleOf sep)
+
+-- "The count of j is C(j) minus C(j − 1), C before 0 being 0."
+unfoldable pub count : Screen → Separation → Inks → ℕ → ℕ
+count s sep inks j = running s sep inks j - before (running s sep inks) j
+
+-- what `counts` answers
+unfoldable pub countsOf : Screen → Separation → Inks → Counts
+countsOf s sep inks = record { refusal = refusalOf s; of = upto (λ j. answered (refusalOf s) (count s sep inks j)) 8 }

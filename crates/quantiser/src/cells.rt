@@ -1,0 +1,85 @@
+// What a renderer needs for a cell, without a division: thresholds once a call, levels once a colour.
+ghost use mathlib.Core.Path.{_≡_};
+ghost use mathlib.Core.List.{_++_};
+ghost use Prim.Native.Nat.{ℕ, suc, _+_, _*_, _≤_, _<_};
+ghost use lib.ListN.{length, getD, drop};
+ghost use Rattle.arith.specs.Sum.{sumBelow};
+ghost use Rattle.arith.specs.Run.{upto};
+ghost use Rattle.screen.specs.Screens.{Admitted};
+ghost use Rattle.screen.specs.Brick.{bufferRefusal};
+ghost use Rattle.quantiser.specs.Leaves.{levelsOf, thresholdOf, thresholdsIn, rank};
+use screen::Screen;
+use separation::Inks;
+use separation::Separation;
+
+// The eight levels of a colour: 2 × D times a running sum, before it is rounded.
+pub fn levels(s: Screen, sep: Separation, inks: Inks) -> [u64; 8]
+    ensures { λ r. ⌜ r ≡ levelsOf s sep inks ⌝ }
+{
+    let weights = separation::weights(sep, inks);
+    let scale = separation::scale(sep);
+    raised(weights, 2 * s.n as u64, scale)
+}
+
+// The running sums of the weights, each times a factor and with the scale added.
+fn raised(weights: [u64; 8], factor: u64, scale: u64) -> [u64; 8]
+    requires { ⌜ ((j : ℕ) → j ≤ 8 → sumBelow j (λ i. getD weights i 0) ≤ scale) × (factor ≤ 8589934590) × (scale ≤ 16581375) ⌝ }
+    ensures { λ r. ⌜ r ≡ upto (λ j. factor * sumBelow (suc j) (λ i. getD weights i 0) + scale) 8 ⌝ }
+{
+    let mut of = [0u64; 8];
+    let mut sum = 0;
+    for j in 0..8 {
+        sum += weights[j];
+        of[j] = factor * sum + scale;
+    }
+    of
+}
+
+// Writes the thresholds of a screen's phases to the first n places of a lent table and answers 0, or
+// answers what refuses it and writes nothing. A table is refused as a brick buffer is.
+pub fn thresholds(s: Screen, table: &mut [u16]) -> u32
+    ensures answer { λ r. ⌜ r ≡ bufferRefusal s (length (now (table .entry))) ⌝ }
+    ensures places { λ _. ⌜ now (table .exit) ≡ thresholdsIn s (now (table .entry)) ⌝ }
+{
+    let refused = screen::refusal(s);
+    if refused != 0 {
+        return refused;
+    }
+    if table.len() < s.n as usize {
+        return 8;
+    }
+    rank_phases(s, table);
+    0
+}
+
+// Writes k, 2 k, .. up to n for the first subscreen, then k - 1, 2 k - 1, .. for the second, and so on.
+fn rank_phases(s: Screen, table: &mut [u16])
+    requires { ⌜ Admitted s × (s .n ≤ length (now table)) ⌝ }
+    ensures { λ _. ⌜ now (table .exit) ≡ upto (thresholdOf s) (s .n) ++ drop (s .n) (now (table .entry)) ⌝ }
+{
+    let mut subscreen = 0;
+    let mut threshold = s.k;
+    let mut phase = 0;
+    while phase < s.n {
+        table[phase as usize] = threshold as u16;
+        threshold += s.k;
+        if s.n < threshold {
+            subscreen += 1;
+            threshold = s.k - subscreen;
+        }
+        phase += 1;
+    }
+}
+
+// The colorant of a cell: how many of the first seven levels its threshold, scaled as they are, is above.
+pub fn colorant_of(levels: [u64; 8], bar: u64) -> u8
+    ensures { λ r. ⌜ r ≡ rank levels bar ⌝ }
+{
+    let mut colorant = 0;
+    for j in 0..7 {
+        if levels[j] < bar {
+            colorant += 1;
+        }
+    }
+    colorant
+}

@@ -1,0 +1,3 @@
+mod DemichelLaws
+mod KueppersLaws
+pub mod Published
