@@ -1,31 +1,9 @@
 """Works out what the test program must print, from the rules of document 01 and nothing else.
 
-    python3 crates/screen_test/expected.py > crates/screen_test/stdout
+    PYTHONPATH=scripts python3 -B crates/screen_test/expected.py > crates/screen_test/stdout
 """
 
-TOP = 4294967295
-
-
-def divides_both(d, a, b):
-    return a % d == 0 and b % d == 0
-
-
-def refusal(s):
-    a, b, n, k, g = s
-    if not 1 <= a < b <= 64 or any(divides_both(d, a, b) for d in range(2, a + 1)):
-        return 1
-    if not 1 <= n <= 4096:
-        return 2
-    if not 1 <= k <= 16 or k > n:
-        return 3
-    if not g < n:
-        return 4
-    return 0
-
-
-def phase(s, x, y):
-    a, b, n, _, g = s
-    return (a * x - b * y - g) % n
+from rules import TOP, brick, brick_phases, numbers, phase, refusal
 
 
 def place(s, x, y):
@@ -33,38 +11,20 @@ def place(s, x, y):
     return f"{r} {0 if r else phase(s, x, y)}"
 
 
-def size(s):
-    a, _, n, _, _ = s
-    rows = max(d for d in range(1, n + 1) if divides_both(d, a, n))
-    return n // rows, rows
-
-
-def brick(s):
-    if refusal(s):
-        return f"{refusal(s)} 0 0 0"
-    a, b, n, _, _ = s
-    columns, rows = size(s)
-    [shift] = [t for t in range(columns) if (a * t - b * rows) % n == 0]
-    return f"0 {columns} {rows} {shift}"
-
-
-def numbers(s):
-    return " ".join(map(str, s))
+def brick_answer(s):
+    return f"{refusal(s)} {numbers((0, 0, 0) if refusal(s) else brick(s))}"
 
 
 def show(s):
-    print(f"{numbers(s)}: {refusal(s)}; {brick(s)}; {place(s, 0, 1)}, {place(s, 3, 2)}")
+    print(f"{numbers(s)}: {refusal(s)}; {brick_answer(s)}; {place(s, 0, 1)}, {place(s, 3, 2)}")
 
 
 def show_filled(s, places):
     buffer = [65535] * 72
     r = refusal(s) or (8 if places < s[2] else 0)
     if not r:
-        columns, rows = size(s)
-        for v in range(rows):
-            for u in range(columns):
-                buffer[v * columns + u] = phase(s, u, v)
-    print(f"{numbers(s)}, {places}: {r}; {' '.join(map(str, buffer))}")
+        buffer[: s[2]] = brick_phases(s)
+    print(f"{numbers(s)}, {places}: {r}; {numbers(buffer)}")
 
 
 print("# a b n k g: refusal; L H S; refusal and phase of (0, 1), of (3, 2)")

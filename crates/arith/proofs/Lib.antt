@@ -5,5 +5,7 @@ pub mod Residues
 pub mod FirstLaws
 pub mod RunLaws
 pub mod RefusalLaws
+pub mod EveryLaws
 pub mod RoundingLaws
 pub mod StepLaws
+pub mod TallyLaws

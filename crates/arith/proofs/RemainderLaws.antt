@@ -1,7 +1,7 @@
 -- Remainders: what equal ones say, and `remainderOf` in words.
 -- Assumes nothing.
-use Prim.Native.Nat.{ℕ, zero, suc, _+_, _-_, _*_, _/_, _%_, _≤_, _<_, _∣_}
-use mathlib.Core.Path.{_≡_, refl, sym, ap, _∙_}
+use Prim.Native.Nat.{ℕ, zero, _+_, _-_, _*_, _/_, _%_, _≤_, _<_, _∣_}
+use mathlib.Core.Path.{_≡_, sym, ap, _∙_}
 use mathlib.Core.Logic.{_⊎_, inl, inr}
 use native.Mathlib.Nat.{not-le-of-lt, le-of-dvd, eq-zero-or-pos, div-add-mod, mul-sub, mul-comm, dvd-mul-right, le-mul-of-pos-right, mod-lt, mod-eq-of-lt, mod-mod, mod-add-mod, add-mul-mod-self-left, mul-add-mod-self-left, mod-eq-zero-of-dvd, zero-add, mod-eq-sub-mod}
 use native.Mathlib.Omega.{arith}
@@ -54,6 +54,12 @@ remainder-scaled h n u v e = scaled u ∙ ap (λ (r : ℕ). h * r % (h * n)) e �
 pub remainder-once : (n p k : ℕ) → p < n → k ≤ n → n ≤ p + k → p + k - n ≡ (p + k) % n
 remainder-once n p k l h r = sym (mod-eq-sub-mod r ∙ mod-eq-of-lt (omega arith))
 
+-- a factor may be reduced first
+pub remainder-times : (p a n i : ℕ) → (p + a % n * i) % n ≡ (p + a * i) % n
+remainder-times p a n i =
+    let q : p + a * i ≡ p + a % n * i + n * (a / n * i) = omega (arith, ap (λ (z : ℕ). z * i) (div-add-mod a n)) in
+    sym (ap (λ (z : ℕ). z % n) q ∙ add-mul-mod-self-left (p + a % n * i) n (a / n * i))
+
 -- ---- the remainder of a difference
 
 module _ (u v n : ℕ) (pos : 0 < n) where
@@ -83,6 +89,14 @@ remainder-apart u v n pos =
     let q : u % n + n - v % n + v ≡ u % n + n * (v / n + 1) = omega (arith, div-add-mod v n) in
     remainder-only u v n ((u % n + n - v % n) % n) (mod-lt _ pos)
     (mod-add-mod (u % n + n - v % n) n v ∙ ap (λ (z : ℕ). z % n) q ∙ add-mul-mod-self-left (u % n) n (v / n + 1) ∙ mod-mod u n)
+
+-- the remainder moves on with u
+pub remainder-on : (u v n i : ℕ) → 0 < n → (remainderOf u v n + i) % n ≡ remainderOf (u + i) v n
+remainder-on u v n i pos =
+    let r : ℕ = remainderOf u v n in
+    let q : r + i + v ≡ r + v + i = omega arith in
+    remainder-only (u + i) v n ((r + i) % n) (mod-lt _ pos)
+    (mod-add-mod (r + i) n v ∙ ap (λ (z : ℕ). z % n) q ∙ remainder-plus n (r + v) u i (remainder-words u v n pos))
 
 -- two differences that agree when crossed have the same remainder
 pub remainder-same : (u v u′ v′ n : ℕ) → 0 < n → (u + v′) % n ≡ (u′ + v) % n → remainderOf u v n ≡ remainderOf u′ v′ n

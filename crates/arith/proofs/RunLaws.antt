@@ -2,10 +2,11 @@
 -- Assumes nothing.
 use mathlib.Core.Path.{_≡_, refl, sym, ap, _∙_}
 use Prim.Native.Nat.{ℕ, zero, suc, _+_, _≤_, _<_}
+use native.Mathlib.Nat.{add-zero, add-suc}
 use native.Mathlib.Numerals.{add-one}
 use native.Mathlib.Decide.{decLt}
 use native.Mathlib.Omega.{arith}
-use mathlib.Core.List.{List, [], _∷_, _++_, append-nil}
+use mathlib.Core.List.{List, [], _∷_, _++_, append-nil, append-assoc}
 use lib.ListN.{length, getD, set, drop, length-append, length-drop, drop-of-length-le, List·getD-append}
 use lib.Seq.{set-at, getD-at, drop-cons, append-snoc}
 use Rattle.arith.specs.Run.{upto}
@@ -32,6 +33,12 @@ pub upto-same : (f g : ℕ → ℕ) (n : ℕ) → ((i : ℕ) → i < n → f i �
 unfolding upto
 upto-same f g zero h = refl
 upto-same f g (suc n) h = rw (upto-same f g n (λ i l. h i (omega arith)), h n (omega arith))
+
+-- a list of the first n elements, and of the m after them
+pub upto-add : (f : ℕ → ℕ) (n m : ℕ) → upto f (n + m) ≡ upto f n ++ upto (λ i. f (n + i)) m
+unfolding upto
+upto-add f n zero = rw (add-zero, append-nil)
+upto-add f n (suc m) = rw (add-suc, upto-add f n m, append-assoc)
 
 -- a store at i of a list whose first i places hold the first i elements: one element more
 pub upto-store : (f : ℕ → ℕ) (l : List ℕ) (i : ℕ) → i < length l → set (upto f i ++ drop i l) i (f i) ≡ upto f (i + 1) ++ drop (i + 1) l

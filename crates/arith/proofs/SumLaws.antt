@@ -3,7 +3,7 @@
 use Prim.Native.Nat.{ℕ, zero, suc, _+_, _-_, _*_, _/_, _%_, _≤_, _<_}
 use mathlib.Core.Path.{_≡_, refl, sym, ap, ap₂, _∙_}
 use mathlib.Core.Logic.{_⊎_, inl, inr, _≢_}
-use native.Mathlib.Nat.{le-refl, le-step, le-of-suc-le-suc, not-suc-le-zero, eq-or-lt-of-le, ne-of-lt, add-zero, add-suc, sub-add-cancel, add-sub-of-le, zero-mul, suc-mul}
+use native.Mathlib.Nat.{le-refl, le-step, le-of-suc-le-suc, not-suc-le-zero, eq-or-lt-of-le, ne-of-lt, add-zero, add-suc, sub-add-cancel, add-sub-of-le, zero-mul, mul-zero, mul-one, suc-mul}
 use native.Mathlib.Decide.{ℕ-discrete}
 use native.Mathlib.Omega.{arith}
 use lib.Dec.{eqb, ltb}
@@ -73,7 +73,8 @@ sum-single (suc n) k f l none = go (sum-single n k f) (eq-or-lt-of-le (le-of-suc
     go ih (inl e) = omega (arith, sum-constant n 0 f (λ i h. none i (le-step h) (λ q. ne-of-lt h (q ∙ e))), ap f e)
     go ih (inr h) = omega (arith, ih h (λ i m. none i (le-step m)), none n (le-refl (suc n)) (λ q. ne-of-lt h (sym q)))
 
-sum-bounded : (n : ℕ) (f : ℕ → ℕ) → ((i : ℕ) → i < n → f i ≤ 1) → sumBelow n f ≤ n
+-- terms of at most 1 add up to at most their number
+pub sum-bounded : (n : ℕ) (f : ℕ → ℕ) → ((i : ℕ) → i < n → f i ≤ 1) → sumBelow n f ≤ n
 unfolding sumBelow
 sum-bounded zero f h = le-refl 0
 sum-bounded (suc n) f h = omega (arith, sum-bounded n f (λ i l. h i (le-step l)), h n (le-refl (suc n)))
@@ -182,3 +183,18 @@ pub each-once : (n : ℕ) (h : ℕ → ℕ) → ((i : ℕ) → i < n → h i < n
 each-once n h low apart =
     sum-full n (λ t. sumBelow n (λ i. indicator (eqb (h i) t))) (λ t l. sum-once n h t apart)
     (sum-exchange n n (λ t i. indicator (eqb (h i) t)) ∙ sum-constant n 1 _ (λ i l. sum-met n (h i) (low i l)) ∙ omega arith)
+
+-- A SUM ALONG a map that meets each number below k once is the sum over the numbers below k
+pub sum-along : (n k : ℕ) (h g : ℕ → ℕ) → ((i : ℕ) → h i < k) → ((t : ℕ) → t < k → sumBelow n (λ i. indicator (eqb (h i) t)) ≡ 1)
+    → sumBelow n (λ i. g (h i)) ≡ sumBelow k g
+sum-along n k h g low once =
+    sum-same n _ _ (λ i l. sym (spread i))
+    ∙ sum-exchange n k (λ i t. g t * indicator (eqb (h i) t))
+    ∙ sum-same k _ g (λ t l. sum-scaled n (g t) (λ i. indicator (eqb (h i) t)) ∙ ap (λ (c : ℕ). g t * c) (once t l) ∙ mul-one (g t))
+  where
+    spread : (i : ℕ) → sumBelow k (λ t. g t * indicator (eqb (h i) t)) ≡ g (h i)
+    spread i =
+        sum-single k (h i) (λ t. g t * indicator (eqb (h i) t)) (low i)
+        (λ t l f. ap (λ (c : ℕ). g t * c) (indicator-none (λ e. f (sym e))) ∙ mul-zero (g t))
+        ∙ ap (λ (c : ℕ). g (h i) * c) (indicator-one {a = h i} refl)
+        ∙ mul-one (g (h i))

@@ -2,6 +2,8 @@ pub mod Gcd
 pub mod Remainder
 pub mod Sum
 pub mod First
+pub mod Every
 pub mod Run
 pub mod Refusal
+pub mod Tally
 pub mod Rounding

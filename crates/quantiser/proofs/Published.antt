@@ -1,13 +1,8 @@
 -- The laws of specs/Laws.antt, proved.
 -- Assumes nothing.
-use mathlib.Core.Path.{_≡_}
-use Rattle.screen.specs.declared.Screen.{Screen}
-use Rattle.separation.specs.declared.Separation.{Separation}
-use Rattle.separation.specs.declared.Inks.{Inks}
-use Rattle.separation.specs.Laws.{InkValues}
 use Rattle.separation.proofs.Published.{weights-add-up}
-use Rattle.quantiser.specs.Running.{running}
-use Rattle.quantiser.specs.Laws.{RunningRises, RunningEnds, CountsAddUp, CountShare, SubscreensAddUp, SubscreenPlaces, PhasePlace, ColorantBelow, PhasesInSubscreen, SubscreenShare, PhasesInAll, ThresholdLaw, ThresholdWithin, ThresholdOnce, ColorantRank}
+use Rattle.quantiser.specs.Laws.{RunningRises, RunningEnds, CountsAddUp, CountShare, ScaleLimit, SubscreensAddUp, SubscreenPlaces, PhasePlace, ColorantBelow, PhasesInSubscreen, SubscreenShare, PhasesInAll, ThresholdLaw, ThresholdWithin, ThresholdOnce, ThresholdListed, RankBelow, ColorantRank}
+use Rattle.quantiser.proofs.LevelLaws as LevelLaws
 use Rattle.quantiser.proofs.RunningLaws as RunningLaws
 use Rattle.quantiser.proofs.SubscreenLaws as SubscreenLaws
 use Rattle.quantiser.proofs.ThresholdLaws as ThresholdLaws
@@ -25,6 +20,9 @@ counts-add-up s ok sep inks v = RunningLaws.counts-add-up s sep inks (weights-ad
 
 pub count-share : CountShare
 count-share s ok sep inks v j = (RunningLaws.count-low s sep inks j, RunningLaws.count-high s sep inks j)
+
+pub scale-limit : ScaleLimit
+scale-limit = LevelLaws.scale-limit
 
 -- ---- subscreens
 
@@ -63,6 +61,12 @@ threshold-within = ThresholdLaws.threshold-within
 
 pub threshold-once : ThresholdOnce
 threshold-once = ThresholdLaws.threshold-once
+
+pub threshold-listed : ThresholdListed
+threshold-listed = LevelLaws.thresholds-listed
+
+pub rank-below : RankBelow
+rank-below = ThresholdLaws.rank-below
 
 pub colorant-rank : ColorantRank
 colorant-rank s ok sep inks v = ThresholdLaws.colorant-rank s sep inks ok (running-ends s ok sep inks v)

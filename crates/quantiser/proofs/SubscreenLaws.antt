@@ -1,16 +1,15 @@
 -- Subscreens: their sizes add up to N, each phase has its place in one of them, and in each the phases of a colorant are those
 -- between two neighbouring values of (C(j) + k) / K.
 -- Assumes nothing.
-use Prim.Native.Nat.{ℕ, zero, suc, pred, _+_, _-_, _*_, _/_, _≤_, _<_}
+use Prim.Native.Nat.{ℕ, zero, suc, pred, _+_, _-_, _/_, _≤_, _<_}
 use mathlib.Core.Path.{_≡_, refl, sym, ap, ap₂, _∙_}
-use mathlib.Core.Bool.{Bool, true, false, _&&_}
+use mathlib.Core.Bool.{_&&_}
 use mathlib.Core.Logic.{_≢_}
 use native.Mathlib.Nat.{le-refl, le-div-iff-mul-le, suc-pred-eq-of-pos, zero-add, div-eq-of-lt}
 use native.Mathlib.Omega.{arith}
-use lib.Dec.{eqb, ltb}
+use lib.Dec.{eqb}
 use borrow.Author.Tests.{lt-ltb, le-ltb, ltb-true, ltb-false, eq-eqb, ne-eqb}
 use Rattle.arith.specs.Sum.{sumBelow, indicator}
-use Rattle.arith.specs.First.{firstBelow}
 use Rattle.arith.specs.Rounding.{roundedUp, before}
 use Rattle.arith.proofs.RoundingLaws.{floor-plus, floor-plus-up, floor-mono, floors-add-up}
 use Rattle.arith.proofs.SumLaws.{sum-same, sum-constant, sum-single, sum-minus, sum-runs}
@@ -21,10 +20,9 @@ use Rattle.screen.specs.Screens.{Admitted, Limits}
 use Rattle.screen.proofs.Published.{admitted-words}
 use Rattle.separation.specs.declared.Separation.{Separation}
 use Rattle.separation.specs.declared.Inks.{Inks}
-use Rattle.separation.specs.Laws.{InkValues}
 use Rattle.quantiser.specs.Running.{running, count}
 use Rattle.quantiser.specs.Subscreens.{subscreenSize, subscreenStart, subscreenOf, distanceOf, fillUpTo, colorantAt, colorantOf, phasesIn, phasesOf}
-use Rattle.quantiser.proofs.RunningLaws.{running-rises, running-ends}
+use Rattle.quantiser.proofs.RunningLaws.{running-rises}
 
 module _ (s : Screen) (ok : Admitted s) where
   limits : Limits s

@@ -1,12 +1,13 @@
 -- Thresholds: q is below (C + k) / K exactly where (q + 1) × K − k is at most C. So a cell's colorant is the first whose running
 -- sum reaches its threshold, and over the phases the thresholds are 1 to N, each once.
 -- Assumes nothing.
-use Prim.Native.Nat.{ℕ, zero, suc, _+_, _-_, _*_, _/_, _%_, _≤_, _<_}
-use mathlib.Core.Path.{_≡_, refl, sym, ap, ap₂, _∙_}
-use mathlib.Core.Bool.{Bool, true, false, not}
+use Prim.Native.Nat.{ℕ, suc, _+_, _-_, _*_, _/_, _%_, _≤_, _<_}
+use mathlib.Core.Path.{_≡_, sym, ap, ap₂, _∙_}
+use mathlib.Core.Bool.{true, not}
 use native.Mathlib.Nat.{le-div-iff-mul-le, le-trans}
 use native.Mathlib.Decide.{decLt, decLe, ℕ-discrete}
 use native.Mathlib.Omega.{arith}
+use mathlib.Core.List.{List}
 use lib.ListN.{getD}
 use lib.Dec.{eqb, ltb, leb}
 use lib.Arith.{digits-div, digits-mod}
@@ -16,7 +17,8 @@ use Rattle.arith.specs.First.{firstBelow}
 use Rattle.arith.specs.Run.{upto}
 use Rattle.arith.proofs.FirstLaws.{first-same, first-counts}
 use Rattle.arith.proofs.RunLaws.{upto-at}
-use Rattle.arith.proofs.SumLaws.{sum-same, each-once}
+use Rattle.arith.proofs.SumLaws.{sum-same, sum-bounded, each-once}
+use Rattle.arith.proofs.TallyLaws.{indicator-le}
 use Rattle.screen.specs.declared.Screen.{Screen}
 use Rattle.screen.specs.Screens.{Admitted}
 use Rattle.separation.specs.declared.Separation.{Separation}
@@ -65,6 +67,11 @@ same-place K k q k′ q′ l l′ e =
     let other : q + 1 ≡ q′ + 1 = sym (digits-div (q + 1) l′) ∙ ap (λ (z : ℕ). z / K) crossed ∙ digits-div (q′ + 1) l in
     (one, omega arith)
 
+-- seven tests add up to seven at most
+pub rank-below : (levels : List ℕ) (bar : ℕ) → rank levels bar < 8
+unfolding rank
+rank-below levels bar = omega (arith, sum-bounded 7 (λ j. indicator (ltb (getD levels j 0) bar)) (λ j l. indicator-le (ltb (getD levels j 0) bar)))
+
 -- ---- of a screen
 
 module _ (s : Screen) (ok : Admitted s) where
@@ -109,17 +116,17 @@ module _ (s : Screen) (sep : Separation) (inks : Inks) where
 
   -- the rank among the levels counts the running sums that stay below the threshold; the eighth, N, never does
   rank-counts : (t : ℕ) → running s sep inks 7 ≡ s .n → t ≤ s .n
-      → rank (levelsOf s sep inks) (2 * scaleOf sep * t) ≡ sumBelow 8 (λ j. indicator (not (leb t (running s sep inks j))))
+      → rank (levelsOf (s .n) sep inks) (2 * scaleOf sep * t) ≡ sumBelow 8 (λ j. indicator (not (leb t (running s sep inks j))))
   unfolding rank levelsOf running sumBelow
   rank-counts t ends h =
       let bar : ℕ = 2 * scaleOf sep * t in
       let none : indicator (not (leb t (running s sep inks 7))) ≡ 0 = rw (le-leb t (running s sep inks 7) (omega (arith, ends))) in
-      sum-same 7 (λ j. indicator (ltb (getD (upto (level s sep inks) 8) j 0) bar)) (λ j. indicator (not (leb t (running s sep inks j))))
-      (λ j l. ap (λ (e : ℕ). indicator (ltb e bar)) (upto-at (level s sep inks) 8 j (omega arith)) ∙ above-quotient t (level s sep inks j) (2 * scaleOf sep) (unit-pos s sep inks))
+      sum-same 7 (λ j. indicator (ltb (getD (upto (level (s .n) sep inks) 8) j 0) bar)) (λ j. indicator (not (leb t (running s sep inks j))))
+      (λ j l. ap (λ (e : ℕ). indicator (ltb e bar)) (upto-at (level (s .n) sep inks) 8 j (omega arith)) ∙ above-quotient t (level (s .n) sep inks j) (2 * scaleOf sep) (unit-pos s sep inks))
       ∙ omega (arith, none)
 
   pub colorant-rank : Admitted s → running s sep inks 7 ≡ s .n → (p : ℕ) → p < s .n
-      → rank (levelsOf s sep inks) (2 * scaleOf sep * thresholdOf s p) ≡ colorantOf s sep inks p
+      → rank (levelsOf (s .n) sep inks) (2 * scaleOf sep * thresholdOf s p) ≡ colorantOf s sep inks p
   unfolding colorantOf thresholdOf
   colorant-rank ok ends p l =
       let t : ℕ = thresholdOf s p in

@@ -1,7 +1,7 @@
 -- The loop of `rank_phases`, over plain numbers and lists: the first places are written, and the subscreen k and the threshold of
 -- the next phase are known.
 -- Assumes nothing.
-use Prim.Native.Nat.{ℕ, suc, _+_, _-_, _*_, _/_, _≤_, _<_}
+use Prim.Native.Nat.{ℕ, suc, _+_, _-_, _/_, _≤_, _<_}
 use mathlib.Core.Path.{_≡_, sym, ap, _∙_}
 use mathlib.Core.List.{List, _++_}
 use mathlib.Core.Logic.{_⊎_, inl, inr}
@@ -14,10 +14,10 @@ use Rattle.arith.specs.Sum.{sumBelow}
 use Rattle.arith.proofs.RunLaws.{Filling, filling-start, filling-length, filling-store}
 use Rattle.screen.specs.declared.Screen.{Screen}
 use Rattle.screen.specs.Screens.{Admitted}
+use Rattle.screen.proofs.Published.{admitted-words}
 use Rattle.quantiser.specs.Subscreens.{subscreenSize, subscreenStart, subscreenOf, distanceOf}
 use Rattle.quantiser.specs.Leaves.{thresholdAt, thresholdOf}
 use Rattle.quantiser.proofs.SubscreenLaws.{start-step, sizes-add-up, size-pos, subscreen-is}
-use Rattle.quantiser.proofs.ThresholdLaws.{threshold-within}
 
 pub record RankAt (s : Screen) (table₀ table : List ℕ) (k threshold phase : ℕ) : Type 0 where
   pub within : phase ≤ s .n
@@ -25,6 +25,7 @@ pub record RankAt (s : Screen) (table₀ table : List ℕ) (k threshold phase : 
   pub most : k ≤ s .k
   pub low : subscreenStart s k ≤ phase
   pub high : k < s .k → phase < subscreenStart s (suc k)
+  pub bounded : threshold ≤ s .n
   pub ranked : threshold ≡ thresholdAt s k (phase - subscreenStart s k)
 
 pub rank-start : (s : Screen) → Admitted s → (table : List ℕ) → RankAt s table table 0 (s .k) 0
@@ -36,6 +37,7 @@ rank-start s ok table =
       most = omega arith;
       low = omega arith;
       high = λ _. omega (arith, size-pos s ok 0);
+      bounded = admitted-words s .0 ok .subscreens-cells;
       ranked = omega arith;
     }
 
@@ -53,9 +55,6 @@ module _ {s : Screen} {table₀ table : List ℕ} {k threshold phase : ℕ} (ok 
   threshold-is l =
       let here : subscreenOf s phase ≡ k = subscreen-is s ok k phase (rank-subscreen l) (r .low) (r .high (rank-subscreen l)) in
       r .ranked ∙ sym (ap (λ (i : ℕ). thresholdAt s i (phase - subscreenStart s i)) here)
-
-  pub rank-below : phase < s .n → threshold ≤ s .n
-  rank-below l = rw (threshold-is l) (threshold-within s ok phase l .1)
 
   pub rank-length : length table ≡ length table₀
   rank-length = filling-length (r .cells)
@@ -76,6 +75,7 @@ module _ {s : Screen} {table₀ table : List ℕ} {k threshold phase : ℕ} (ok 
         most = r .most;
         low = omega (arith, r .low);
         high = λ _. omega (arith, start-step s ok k, more, r .low);
+        bounded = h;
         ranked = rw past (omega (arith, r .ranked, rank-subscreen l));
       }
 
@@ -94,6 +94,7 @@ module _ {s : Screen} {table₀ table : List ℕ} {k threshold phase : ℕ} (ok 
         most = omega (arith, rank-subscreen l);
         low = omega arith;
         high = λ _. omega (arith, start-step s ok (k + 1), size-pos s ok (k + 1));
+        bounded = omega (arith, admitted-words s .0 ok .subscreens-cells);
         ranked = rw from (omega arith);
       }
 

@@ -2,6 +2,8 @@
 -- Assumes nothing.
 use Prim.Native.Nat.{ℕ, suc, _+_, _-_, _*_, _/_, _≤_, _<_}
 use mathlib.Core.Path.{_≡_}
+use mathlib.Core.List.{List}
+use lib.ListN.{length, getD}
 use lib.Dec.{eqb, leb}
 use Rattle.arith.specs.Sum.{sumBelow, indicator}
 use Rattle.arith.specs.First.{firstBelow}
@@ -14,7 +16,7 @@ use Rattle.separation.specs.Weights.{weight, scaleOf}
 use Rattle.separation.specs.Laws.{InkValues}
 use Rattle.quantiser.specs.Running.{running, count}
 use Rattle.quantiser.specs.Subscreens.{subscreenSize, subscreenStart, subscreenOf, distanceOf, fillUpTo, colorantAt, colorantOf, phasesIn, phasesOf}
-use Rattle.quantiser.specs.Leaves.{thresholdAt, thresholdOf, levelsOf, rank}
+use Rattle.quantiser.specs.Leaves.{thresholdAt, thresholdOf, thresholdsIn, levelsOf, rank}
 
 -- a statement of every admitted screen, separation and ink values
 abbrev pub Always : (Screen → Separation → Inks → Type 0) → Type 0
@@ -38,6 +40,10 @@ CountShare =
     Always
     (λ s sep inks. (j : ℕ)
     → (s .n * weight sep inks j / scaleOf sep ≤ count s sep inks j) × (count s sep inks j ≤ roundedUp (s .n * weight sep inks j) (scaleOf sep)))
+
+-- D is at most 255 × 255 × 255, so that a renderer's products of it fit
+abbrev pub ScaleLimit : Type 0
+ScaleLimit = (sep : Separation) → scaleOf sep ≤ 16581375
 
 -- ---- subscreens
 
@@ -97,7 +103,17 @@ abbrev pub ThresholdOnce : Type 0
 ThresholdOnce =
     (s : Screen) → Admitted s → (t : ℕ) → 1 ≤ t → t ≤ s .n → sumBelow (s .n) (λ p. indicator (eqb (thresholdOf s p) t)) ≡ 1
 
+-- a table with the thresholds written to it is as long as before, and has each phase's at its number
+abbrev pub ThresholdListed : Type 0
+ThresholdListed =
+    (s : Screen) → Admitted s → (table : List ℕ) → s .n ≤ length table
+    → (length (thresholdsIn s table) ≡ length table) × ((p : ℕ) → p < s .n → getD (thresholdsIn s table) p 0 ≡ thresholdOf s p)
+
+-- a rank is a colorant's number
+abbrev pub RankBelow : Type 0
+RankBelow = (levels : List ℕ) (bar : ℕ) → rank levels bar < 8
+
 -- a phase's colorant is the rank of its threshold, scaled by 2 × D, among the levels
 abbrev pub ColorantRank : Type 0
 ColorantRank =
-    Always (λ s sep inks. (p : ℕ) → p < s .n → rank (levelsOf s sep inks) (2 * scaleOf sep * thresholdOf s p) ≡ colorantOf s sep inks p)
+    Always (λ s sep inks. (p : ℕ) → p < s .n → rank (levelsOf (s .n) sep inks) (2 * scaleOf sep * thresholdOf s p) ≡ colorantOf s sep inks p)

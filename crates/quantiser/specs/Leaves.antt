@@ -26,9 +26,9 @@ thresholdOf s p = thresholdAt s (subscreenOf s p) (distanceOf s p)
 unfoldable pub thresholdsIn : Screen → List ℕ → List ℕ
 thresholdsIn s table = written (bufferRefusal s (length table)) (upto (thresholdOf s) (s .n)) table
 
--- what `levels` answers
-unfoldable pub levelsOf : Screen → Separation → Inks → List ℕ
-levelsOf s sep inks = upto (level s sep inks) 8
+-- what `levels` answers for n cells
+unfoldable pub levelsOf : ℕ → Separation → Inks → List ℕ
+levelsOf n sep inks = upto (level n sep inks) 8
 
 -- what `colorant_of` answers: how many of the first seven levels a number is above
 unfoldable pub rank : List ℕ → ℕ → ℕ

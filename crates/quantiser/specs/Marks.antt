@@ -2,7 +2,7 @@
 -- Assumes nothing: these are statements.
 use Prim.Native.Nat.{ℕ}
 use mathlib.Core.Path.{_≡_}
-use mathlib.Core.List.{List, [], _∷_}
+use mathlib.Core.List.{[], _∷_}
 use Rattle.arith.specs.Run.{upto}
 use Rattle.screen.specs.declared.Screen.{Screen}
 use Rattle.screen.specs.Marks as Screens

@@ -1,7 +1,6 @@
 -- Document 01, 'Quantised counts and subscreens', first paragraph: running sums and counts.
 -- Assumes nothing: these are definitions.
 use Prim.Native.Nat.{ℕ, suc, _+_, _-_, _*_, _/_}
-use mathlib.Core.List.{List}
 use Rattle.arith.specs.Sum.{sumBelow}
 use Rattle.arith.specs.Run.{upto}
 use Rattle.arith.specs.Rounding.{before}
@@ -19,11 +18,11 @@ weightUpTo sep inks j = sumBelow (suc j) (weight sep inks)
 
 -- "C(j) = (2 × N × A(j) + D) / (2 × D) rounded down." What is divided has a name of its own, since a renderer compares it
 -- instead of dividing (Leaves.antt).
-unfoldable pub level : Screen → Separation → Inks → ℕ → ℕ
-level s sep inks j = 2 * s .n * weightUpTo sep inks j + scaleOf sep
+unfoldable pub level : ℕ → Separation → Inks → ℕ → ℕ
+level n sep inks j = 2 * n * weightUpTo sep inks j + scaleOf sep
 
 unfoldable pub running : Screen → Separation → Inks → ℕ → ℕ
-running s sep inks j = level s sep inks j / (2 * scaleOf sep)
+running s sep inks j = level (s .n) sep inks j / (2 * scaleOf sep)
 
 -- "The count of j is C(j) minus C(j − 1), C before 0 being 0."
 unfoldable pub count : Screen → Separation → Inks → ℕ → ℕ

@@ -1,11 +1,10 @@
 -- Document 01, 'Quantised counts and subscreens', second paragraph: subscreens, and the colorant of a phase.
 -- Assumes nothing: these are definitions.
-use Prim.Native.Nat.{ℕ, suc, _+_, _-_, _*_, _/_}
+use Prim.Native.Nat.{ℕ, suc, _+_, _-_, _/_}
 use mathlib.Core.Bool.{_&&_}
 use lib.Dec.{ltb, eqb}
 use Rattle.arith.specs.Sum.{sumBelow, indicator}
 use Rattle.arith.specs.First.{firstBelow}
-use Rattle.arith.specs.Rounding.{before}
 use Rattle.screen.specs.declared.Screen.{Screen}
 use Rattle.separation.specs.declared.Separation.{Separation}
 use Rattle.separation.specs.declared.Inks.{Inks}

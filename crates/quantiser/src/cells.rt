@@ -1,7 +1,7 @@
 // What a renderer needs for a cell, without a division: thresholds once a call, levels once a colour.
 ghost use mathlib.Core.Path.{_≡_};
 ghost use mathlib.Core.List.{_++_};
-ghost use Prim.Native.Nat.{ℕ, suc, _+_, _*_, _≤_, _<_};
+ghost use Prim.Native.Nat.{ℕ, suc, _+_, _*_, _≤_};
 ghost use lib.ListN.{length, getD, drop};
 ghost use Rattle.arith.specs.Sum.{sumBelow};
 ghost use Rattle.arith.specs.Run.{upto};
@@ -12,13 +12,13 @@ use screen::Screen;
 use separation::Inks;
 use separation::Separation;
 
-// The eight levels of a colour: 2 × D times a running sum, before it is rounded.
-pub fn levels(s: Screen, sep: Separation, inks: Inks) -> [u64; 8]
-    ensures { λ r. ⌜ r ≡ levelsOf s sep inks ⌝ }
+// The eight levels of a colour on n cells: 2 × D times a running sum, before it is rounded.
+pub fn levels(n: u32, sep: Separation, inks: Inks) -> [u64; 8]
+    ensures { λ r. ⌜ r ≡ levelsOf n sep inks ⌝ }
 {
     let weights = separation::weights(sep, inks);
     let scale = separation::scale(sep);
-    raised(weights, 2 * s.n as u64, scale)
+    raised(weights, 2 * n as u64, scale)
 }
 
 // The running sums of the weights, each times a factor and with the scale added.

@@ -23,7 +23,7 @@ pub fn counts(s: Screen, sep: Separation, inks: Inks) -> Counts
         };
     }
     let unit = 2 * separation::scale(sep);
-    let of = differences(levels(s, sep, inks), unit);
+    let of = differences(levels(s.n, sep, inks), unit);
     Counts { refusal: 0, of: of }
 }
 

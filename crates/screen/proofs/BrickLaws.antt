@@ -1,19 +1,18 @@
 -- The brick, over plain numbers: its size, its period and shift, and that each phase occurs in it exactly once, wherever it lies.
 -- Assumes nothing.
 use Prim.Native.Nat.{ℕ, zero, suc, _+_, _-_, _*_, _/_, _%_, _≤_, _<_, _∣_}
-use mathlib.Core.Path.{_≡_, refl, sym, ap, ap₂, _∙_}
-use mathlib.Core.Bool.{Bool, true}
-use native.Mathlib.Nat.{pos-of-ne-zero, le-of-dvd, lt-of-lt-of-le, div-le-self, mul-zero, mul-suc, mul-comm, mul-assoc, mul-sub, add-zero, add-assoc, one-mul, mod-lt, mod-eq-of-lt, mod-mod-of-dvd, mod-add-div, div-add-mod', div-lt-iff-lt-mul, mul-div-cancel', dvd-mul-right, dvd-mul-right-of-dvd, dvd-of-mul-dvd-mul-left, add-mul-mod-self-left}
+use mathlib.Core.Path.{_≡_, sym, ap, ap₂, _∙_}
+use mathlib.Core.Bool.{Bool}
+use native.Mathlib.Nat.{pos-of-ne-zero, le-of-dvd, lt-of-lt-of-le, div-le-self, mul-zero, mul-suc, mul-comm, mul-sub, add-zero, add-assoc, one-mul, mod-lt, mod-eq-of-lt, mod-mod-of-dvd, mod-add-div, div-add-mod', div-lt-iff-lt-mul, mul-div-cancel', dvd-mul-right, dvd-mul-right-of-dvd, dvd-of-mul-dvd-mul-left, add-mul-mod-self-left}
 use native.Mathlib.Omega.{arith}
 use lib.Dec.{eqb}
-use lib.Arith.{digits-lt}
 use borrow.Author.Tests.{eq-eqb, eqb-true}
 use Rattle.arith.specs.Gcd.{gcdOf}
 use Rattle.arith.specs.Remainder.{remainderOf}
 use Rattle.arith.specs.First.{firstBelow}
 use Rattle.arith.specs.Sum.{sumBelow, indicator}
 use Rattle.arith.proofs.GcdLaws.{gcd-divides, gcd-scaled, gcd-pos, gcd-reduced}
-use Rattle.arith.proofs.RemainderLaws.{same-remainder, below-divisor, remainder-plus, remainder-minus, remainder-multiple, remainder-scaled, remainder-below, remainder-words, remainder-same, remainder-crossed}
+use Rattle.arith.proofs.RemainderLaws.{same-remainder, below-divisor, remainder-plus, remainder-minus, remainder-multiple, remainder-scaled, remainder-words, remainder-same, remainder-crossed}
 use Rattle.arith.proofs.SumLaws.{sum-same, sum-places, sum-window, each-once}
 use Rattle.arith.proofs.Residues.{residue-once}
 use Rattle.arith.proofs.FirstLaws.{first-found, first-counted, first-passes}

@@ -1,21 +1,18 @@
 -- The laws of specs/Laws.antt, proved: those over plain numbers (PhaseLaws, BrickLaws), at an admitted screen's numbers.
 -- Assumes nothing.
-use Prim.Native.Nat.{ℕ, _+_, _*_, _/_, _%_, _≤_, _<_}
-use mathlib.Core.Path.{_≡_, refl, sym, ap, ap₂, _∙_, subst}
+use Prim.Native.Nat.{ℕ, _+_, _*_, _/_, _<_}
+use mathlib.Core.Path.{_≡_, sym, ap₂, _∙_, subst}
 use mathlib.Core.List.{List, _++_}
 use native.Mathlib.Nat.{mul-one, mod-lt, le-trans, le-of-eq}
-use lib.ListN.{length, getD, drop, List·getD-append}
+use lib.ListN.{length, drop, List·getD-append}
 use lib.Arith.{digits-lt, digits-div, digits-mod}
-use borrow.Author.Tests.{eq-eqb, le-leb}
-use Rattle.arith.specs.Sum.{sumBelow}
-use Rattle.arith.specs.Run.{upto}
 use Rattle.arith.proofs.RemainderLaws.{remainder-below}
 use Rattle.arith.proofs.RunLaws.{upto-length, upto-at, upto-over}
 use Rattle.screen.specs.declared.Screen.{Screen}
 use Rattle.screen.specs.Screens.{Admitted, Limits}
 use Rattle.screen.specs.Phase.{phase}
-use Rattle.screen.specs.Brick.{rows, columns, shift, phaseAtPlace, brickPhases, bufferRefusal, filled, TrueBrick, placeInBrick}
-use Rattle.screen.specs.Laws.{AdmittedWords, PhaseBelow, PhaseWords, PhaseOnly, StepsRight, StepRight, StepDown, BrickSize, PeriodRight, ShiftWords, ShiftOnly, ShiftLaw, FilledIsTrue, ReadFromBrick, BufferRefused, times, EachPhaseOnce, EachPhaseTimes}
+use Rattle.screen.specs.Brick.{rows, columns, shift, brickPhases, filled, placeInBrick}
+use Rattle.screen.specs.Laws.{AdmittedWords, PhaseBelow, PhaseWords, PhaseOnly, StepsRight, StepRight, StepDown, PlaceOnSheet, BrickSize, PeriodRight, ShiftWords, ShiftOnly, ShiftLaw, BrickAnswered, FilledIsTrue, ReadFromBrick, BufferRefused, times, EachPhaseOnce, EachPhaseTimes}
 use Rattle.screen.proofs.Refusals as Refusals
 use Rattle.screen.proofs.PhaseLaws as PhaseLaws
 use Rattle.screen.proofs.BrickLaws as BrickLaws
@@ -46,6 +43,9 @@ step-right s e = PhaseLaws.step-right _ _ _ _ (limits e .cells-above)
 pub step-down : StepDown
 step-down s e = PhaseLaws.row-back _ _ _ _ (limits e .cells-above)
 
+pub place-on-sheet : PlaceOnSheet
+place-on-sheet s e x y l h = sym (Refusals.place-whole s x y (sym (Refusals.place-on s x y e l h)))
+
 -- ---- brick
 
 pub brick-size : BrickSize
@@ -66,6 +66,9 @@ shift-only s e = BrickLaws.shift-only _ _ _ (limits e .cells-above)
 
 pub shift-law : ShiftLaw
 shift-law s e = BrickLaws.shifted _ _ _ _ (limits e .cells-above)
+
+pub brick-answered : BrickAnswered
+brick-answered s e = sym (Refusals.brick-whole s e)
 
 -- a place within the brick is one of its first N
 place-below : (s : Screen) → Admitted s → (u v : ℕ) → u < columns s → v < rows s → v * columns s + u < s .n

@@ -2,7 +2,7 @@
 -- Assumes nothing.
 use Prim.Native.Nat.{ℕ, _+_, _*_, _%_, _≤_, _<_}
 use mathlib.Core.Path.{_≡_, sym, ap, _∙_}
-use native.Mathlib.Nat.{mul-zero, zero-mod, mul-add, mul-one, mod-lt, mod-add-mod, add-mod-mod}
+use native.Mathlib.Nat.{mul-zero, zero-mod, mod-lt, mod-add-mod, add-mod-mod}
 use native.Mathlib.Omega.{arith}
 use borrow.Author.Tests.{eq-eqb, ne-eqb}
 use Rattle.arith.proofs.FirstLaws.{first-ahead, first-reached}

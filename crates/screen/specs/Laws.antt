@@ -8,8 +8,8 @@ use lib.Dec.{eqb}
 use Rattle.arith.specs.Sum.{sumBelow, indicator}
 use Rattle.screen.specs.declared.Screen.{Screen}
 use Rattle.screen.specs.Screens.{refusalOf, Admitted, Limits}
-use Rattle.screen.specs.Phase.{phase}
-use Rattle.screen.specs.Brick.{rows, columns, shift, bufferRefusal, filled, TrueBrick, placeInBrick}
+use Rattle.screen.specs.Phase.{phase, placeOf}
+use Rattle.screen.specs.Brick.{rows, columns, shift, brickOf, bufferRefusal, filled, TrueBrick, placeInBrick}
 
 -- ---- screen and phase
 
@@ -40,6 +40,10 @@ StepRight = (s : Screen) → Admitted s → (x y : ℕ) → phase s (x + 1) y �
 abbrev pub StepDown : Type 0
 StepDown = (s : Screen) → Admitted s → (x y : ℕ) → (phase s x (y + 1) + s .b) % s .n ≡ phase s x y
 
+-- what `phase_at` answers for a place on the sheet
+abbrev pub PlaceOnSheet : Type 0
+PlaceOnSheet = (s : Screen) → Admitted s → (x y : ℕ) → x < 65536 → y < 65536 → placeOf s x y ≡ record { refusal = 0; phase = phase s x y }
+
 -- ---- brick
 
 -- a brick has N places, and at least one column and one row
@@ -60,6 +64,10 @@ ShiftOnly = (s : Screen) → Admitted s → (t : ℕ) → t < columns s → s .a
 -- "the phase at (x + S, y + H) is that at (x, y)"
 abbrev pub ShiftLaw : Type 0
 ShiftLaw = (s : Screen) → Admitted s → (x y : ℕ) → phase s (x + shift s) (y + rows s) ≡ phase s x y
+
+-- what `brick_of` answers for an admitted screen
+abbrev pub BrickAnswered : Type 0
+BrickAnswered = (s : Screen) → Admitted s → brickOf s ≡ record { refusal = 0; columns = columns s; rows = rows s; shift = shift s }
 
 -- `fill_brick` makes a true brick
 abbrev pub FilledIsTrue : Type 0

@@ -1,6 +1,5 @@
 -- `separation::factor` meets its contract. Assumes nothing.
 use native.Mathlib.Omega.{arith}
-use mathlib.Core.Path.{refl}
 use borrow.Author.Needs.{needs}
 use Rattle.separation.proofs.factor.Statement.{statement}
 use Rattle.separation.proofs.factor.Tie as tie

@@ -1,5 +1,5 @@
 -- `separation::kueppers` meets its contract: what the calls answer, put together, is the definition. Assumes nothing.
-use mathlib.Core.Path.{_≡_, sym, _∙_}
+use mathlib.Core.Path.{sym, _∙_}
 use native.Mathlib.Nat.{le-of-lt, sub-eq-zero-of-le}
 use Rattle.separation.specs.Weights.{kueppersWeight}
 use borrow.Author.Needs.{needs}

@@ -5,7 +5,7 @@ use mathlib.Core.Logic.{⊎-elim}
 use native.Mathlib.Omega.{arith}
 use borrow.Author.Needs.{needs}
 use Rattle.screen.proofs.Published.{admitted-words}
-use Rattle.quantiser.proofs.ThresholdLoop.{RankAt, rank-start, rank-subscreen, rank-below, rank-length, rank-next, rank-turn, rank-end}
+use Rattle.quantiser.proofs.ThresholdLoop.{RankAt, rank-start, rank-subscreen, rank-length, rank-next, rank-turn, rank-end}
 use Rattle.quantiser.proofs.cells.rank_phases.Statement.{statement}
 use Rattle.quantiser.proofs.cells.rank_phases.Tie as tie
 
@@ -22,7 +22,7 @@ cast-table : tie.Need-cast-table Inv-loop μ-loop
 cast-table c =
     let turn = c .before .before in
     let ok = turn .before .pre .0 in
-    omega (arith, rank-below ok (turn .loop .inv) (c .if1 .taken), admitted-words _ .0 ok .cells-limit)
+    omega (arith, turn .loop .inv .bounded, admitted-words _ .0 ok .cells-limit)
 
 cast-table-2 : tie.Need-cast-table-2 Inv-loop μ-loop
 cast-table-2 c = search needs
@@ -40,7 +40,7 @@ add-threshold c =
     let turn = c .before .before .before in
     let ok = turn .before .pre .0 in
     let limits = admitted-words _ .0 ok in
-    omega (arith, rank-below ok (turn .loop .inv) (c .before .if1 .taken), limits .cells-limit, limits .subscreens-limit)
+    omega (arith, turn .loop .inv .bounded, limits .cells-limit, limits .subscreens-limit)
 
 add-subscreen : tie.Need-add-subscreen Inv-loop μ-loop
 add-subscreen c =

@@ -1,9 +1,8 @@
 -- `screen::places::phase_at` meets its contract: a place that is not refused is within the limits that `phase_of` asks.
 -- Assumes nothing.
-use mathlib.Core.Path.{_≡_, sym, ap, _∙_}
+use mathlib.Core.Path.{sym, _∙_}
 use native.Mathlib.Omega.{arith}
 use borrow.Author.Needs.{needs}
-use Rattle.screen.specs.declared.places.Place.{Place}
 use Rattle.screen.proofs.Refusals.{place-kept, place-none, place-whole}
 use Rattle.screen.proofs.places.phase_at.Statement.{statement}
 use Rattle.screen.proofs.places.phase_at.Tie as tie

@@ -1,0 +1,81 @@
+-- Laws of `tally`: of a list joined of two, of a list given by places, and of a table of tallies that a loop keeps.
+-- Assumes nothing.
+use Prim.Native.Nat.{ℕ, zero, suc, _+_, _≤_, _<_}
+use mathlib.Core.Path.{_≡_, refl, sym, ap, _∙_}
+use mathlib.Core.Bool.{Bool, true, false}
+use mathlib.Core.List.{List, [], _∷_, _++_}
+use native.Mathlib.Decide.{ℕ-discrete}
+use native.Mathlib.Omega.{arith}
+use lib.ListN.{length, getD, set, length-set}
+use lib.Seq.{getD-set-same, getD-set-other, ext-getD}
+use lib.Dec.{eqb}
+use borrow.Author.Tests.{eq-eqb, ne-eqb}
+use Rattle.arith.specs.Sum.{sumBelow, indicator}
+use Rattle.arith.specs.Run.{upto}
+use Rattle.arith.specs.Tally.{tally}
+use Rattle.arith.proofs.RunLaws.{upto-length, upto-at, upto-same}
+
+pub indicator-le : (t : Bool) → indicator t ≤ 1
+indicator-le true = omega arith
+indicator-le false = omega arith
+
+pub tally-append : (v : ℕ) (l m : List ℕ) → tally v (l ++ m) ≡ tally v l + tally v m
+unfolding tally
+tally-append v [] m = omega arith
+tally-append v (x ∷ l) m = omega (arith, tally-append v l m)
+
+pub tally-one : (v x : ℕ) → tally v (x ∷ []) ≡ indicator (eqb x v)
+unfolding tally
+tally-one v x = omega arith
+
+pub tally-most : (v : ℕ) (l : List ℕ) → tally v l ≤ length l
+unfolding tally
+tally-most v [] = omega arith
+tally-most v (x ∷ l) = omega (arith, tally-most v l, indicator-le (eqb x v))
+
+-- a tally of a list given by its places is a sum of tests
+pub tally-upto : (v : ℕ) (f : ℕ → ℕ) (n : ℕ) → tally v (upto f n) ≡ sumBelow n (λ i. indicator (eqb (f i) v))
+unfolding upto sumBelow tally
+tally-upto v f zero = refl
+tally-upto v f (suc n) = tally-append v (upto f n) (f n ∷ []) ∙ omega (arith, tally-upto v f n, tally-one v (f n))
+
+-- and so is any list's
+pub tally-places : (v : ℕ) (l : List ℕ) → tally v l ≡ sumBelow (length l) (λ i. indicator (eqb (getD l i 0) v))
+tally-places v l = ap (tally v) by-places ∙ tally-upto v (λ i. getD l i 0) (length l)
+  where
+    by-places : l ≡ upto (λ i. getD l i 0) (length l)
+    by-places =
+        ext-getD 0 l (upto (λ i. getD l i 0) (length l)) (sym (upto-length _ (length l)))
+        (λ i h. sym (upto-at (λ i. getD l i 0) (length l) i h))
+
+-- A TABLE of numbers with one more at place v
+pub table-bump : (g : ℕ → ℕ) (n v : ℕ) → v < n → set (upto g n) v (g v + 1) ≡ upto (λ j. g j + indicator (eqb v j)) n
+table-bump g n v l =
+    ext-getD 0 (set (upto g n) v (g v + 1)) (upto (λ j. g j + indicator (eqb v j)) n)
+    (length-set (upto g n) v (g v + 1) ∙ upto-length g n ∙ sym (upto-length (λ j. g j + indicator (eqb v j)) n))
+    (λ j h. at j (rw (length-set (upto g n) v (g v + 1), upto-length g n) at h))
+  where
+    at : (j : ℕ) → j < n → getD (set (upto g n) v (g v + 1)) j 0 ≡ getD (upto (λ j. g j + indicator (eqb v j)) n) j 0
+    at j h = go (ℕ-discrete j v) ∙ sym (upto-at (λ j. g j + indicator (eqb v j)) n j h)
+      where
+        go : Dec (j ≡ v) → getD (set (upto g n) v (g v + 1)) j 0 ≡ g j + indicator (eqb v j)
+        go (yes e) =
+            rw (eq-eqb v j (sym e), e)
+            (getD-set-same (upto g n) v (g v + 1) 0 (rw (upto-length g n) l))
+        go (no f) =
+            rw (ne-eqb v j (λ q. f (sym q)), getD-set-other (upto g n) v j (g v + 1) 0 f) (upto-at g n j h ∙ omega arith)
+
+-- a table that holds the tallies of a list, after one element more
+pub tallies-bump : (t : ℕ → ℕ) (l : List ℕ) (n v : ℕ) → v < n
+    → set (upto (λ j. t j + tally j l) n) v (getD (upto (λ j. t j + tally j l) n) v 0 + 1) ≡ upto (λ j. t j + tally j (l ++ v ∷ [])) n
+tallies-bump t l n v h =
+    rw (upto-at (λ j. t j + tally j l) n v h)
+    (table-bump (λ j. t j + tally j l) n v h
+    ∙ upto-same _ _ n (λ j k. omega (arith, tally-append j l (v ∷ []), tally-one j v)))
+
+-- and at the start, where no element is counted yet
+pub tallies-none : (t : List ℕ) (n : ℕ) → length t ≡ n → t ≡ upto (λ j. getD t j 0 + tally j []) n
+unfolding tally
+tallies-none t n e =
+    ext-getD 0 t (upto (λ j. getD t j 0 + tally j []) n) (e ∙ sym (upto-length _ n))
+    (λ j h. sym (upto-at (λ j. getD t j 0 + tally j []) n j (rw e at h) ∙ omega arith))
