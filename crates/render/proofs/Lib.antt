@@ -1,0 +1,7 @@
+pub mod Published
+mod RefusalLaws
+mod AnswerLaws
+mod RowLoop
+mod BrickRow
+mod WindowLoop
+mod DemandLaws

@@ -1,0 +1,74 @@
+-- Demand 3, in the paper's words and order. Both renderers' contracts cite it; that they agree is `Agreement`.
+-- Assumes nothing: these are statements.
+use Prim.Native.Nat.{ℕ, _+_, _*_, _/_, _≤_, _<_}
+use mathlib.Core.Path.{_≡_}
+use mathlib.Core.Bool.{_&&_}
+use mathlib.Core.List.{List}
+use lib.ListN.{length, getD}
+use lib.Dec.{eqb}
+use Rattle.arith.specs.Sum.{sumBelow, indicator}
+use Rattle.arith.specs.Rounding.{roundedUp}
+use Rattle.arith.specs.Tally.{tally}
+use Rattle.screen.specs.declared.Screen.{Screen}
+use Rattle.screen.specs.Screens.{Admitted}
+use Rattle.screen.specs.Phase.{phase}
+use Rattle.screen.specs.Brick as Brick
+use Rattle.screen.specs.Laws.{times}
+use Rattle.separation.specs.declared.Separation.{Separation}
+use Rattle.separation.specs.declared.Inks.{Inks}
+use Rattle.separation.specs.Weights.{weight, scaleOf}
+use Rattle.separation.specs.Laws.{InkValues}
+use Rattle.quantiser.specs.Running.{count}
+use Rattle.quantiser.specs.Subscreens.{subscreenOf}
+use Rattle.render.specs.declared.Window.{Window}
+use Rattle.render.specs.declared.Rendering.{Rendering}
+use Rattle.render.specs.Windows.{area, inksAt}
+use Rattle.render.specs.Answers.{rendering, rendered, brickRendering, brickRendered}
+
+-- "In every window of u by v bricks with one ink triple": "The window has u × L columns and v × H rows, u and v any whole numbers
+-- from 0; with input and output of the stated lengths"
+pub record Brickwork (s : Screen) (w : Window) (inks : Inks) (u v : ℕ) (input : List ℕ) (outputs : ℕ) : Type 0 where
+  pub admitted : Admitted s
+  pub bytes : InkValues inks
+  pub columns : w .columns ≡ u * Brick.columns s
+  pub rows : w .rows ≡ v * Brick.rows s
+  pub right : w .x + w .columns ≤ 65536
+  pub down : w .y + w .rows ≤ 65536
+  pub inputs : length input ≡ 3 * area w
+  pub one-triple : (i : ℕ) → i < area w → inksAt input i ≡ inks
+  pub outputs-stated : outputs ≡ area w
+
+-- "the output bytes that equal its number", among the cells of the brick at (i, j) in the window that are in subscreen k: "A cell is
+-- in the subscreen that its phase falls in."
+unfoldable pub bytesInSubscreen : Screen → Window → List ℕ → ℕ → ℕ → ℕ → ℕ → ℕ
+bytesInSubscreen s w out i j k colorant =
+    sumBelow (Brick.rows s) (λ r. sumBelow (Brick.columns s) (λ c.
+    indicator (eqb (subscreenOf s (phase s (w .x + (i + c)) (w .y + (j + r)))) k && eqb (getD out ((j + r) * w .columns + (i + c)) 0) colorant)))
+
+pub record Even (s : Screen) (sep : Separation) (w : Window) (inks : Inks) (u v : ℕ) (answer : Rendering) (out : List ℕ) : Type 0 where
+  -- "neither renderer refuses it"
+  pub not-refused : answer .refusal ≡ 0
+  -- "each phase occurs exactly u × v times", "Each phase means 0 to N − 1."
+  pub phases : (p : ℕ) → p < s .n → times s (w .x) (w .y) (w .columns) (w .rows) p ≡ u * v
+  -- "tallies equal the cells written", "the output bytes that equal its number"
+  pub written : (j : ℕ) → j < 8 → getD (answer .tallies) j 0 ≡ tally j out
+  -- "and are u × v times the quantised counts"
+  pub counted : (j : ℕ) → j < 8 → getD (answer .tallies) j 0 ≡ u * v * count s sep inks j
+  -- "counts are shares rounded down or up"
+  pub shares : (j : ℕ) → j < 8
+      → (s .n * weight sep inks j / scaleOf sep ≤ count s sep inks j) × (count s sep inks j ≤ roundedUp (s .n * weight sep inks j) (scaleOf sep))
+  -- "subscreens split them evenly", in "any L neighbouring columns by H neighbouring rows of it, wherever they begin"
+  pub subscreens : (i j : ℕ) → i + Brick.columns s ≤ w .columns → j + Brick.rows s ≤ w .rows → (k colorant : ℕ) → k < s .k → colorant < 8
+      → (count s sep inks colorant / s .k ≤ bytesInSubscreen s w out i j k colorant)
+      × (bytesInSubscreen s w out i j k colorant ≤ roundedUp (count s sep inks colorant) (s .k))
+
+-- what a renderer promises of its answer and its output
+abbrev pub Demand3 : Screen → Separation → Window → List ℕ → ℕ → Rendering → List ℕ → Type 0
+Demand3 s sep w input outputs answer out = (inks : Inks) (u v : ℕ) → Brickwork s w inks u v input outputs → Even s sep w inks u v answer out
+
+-- "both renderers, called alike, agree in answer, tallies and bytes for every input, refused ones included", where the second is lent
+-- a true brick
+abbrev pub Agreement : Type 0
+Agreement =
+    (s : Screen) (sep : Separation) (w : Window) (input brick out : List ℕ) → Brick.TrueBrick s brick
+    → (brickRendering s sep w input brick out ≡ rendering s sep w input out) × (brickRendered s sep w input brick out ≡ rendered s sep w input out)

@@ -1,0 +1,208 @@
+// The renderers.
+ghost use mathlib.Core.Path.{_≡_};
+ghost use Prim.Native.Nat.{_+_};
+ghost use lib.ListN.{length, getD};
+ghost use Rattle.screen.specs.Screens.{Admitted};
+ghost use Rattle.screen.specs.Phase.{phase};
+ghost use Rattle.screen.specs.Brick.{TrueBrick};
+ghost use Rattle.arith.specs.Run.{upto};
+ghost use Rattle.render.specs.Answers.{rendering, rendered, brickRendering, brickRendered, loneCell};
+ghost use Rattle.render.specs.Demand.{Demand3};
+ghost use Rattle.render.specs.Rows.{BrickInput, WindowInput, RowsWritten, brickPlace};
+use crate::Cell;
+use crate::Rendering;
+use crate::Window;
+use crate::bricks::brick_row;
+use crate::refusals::brick_due;
+use crate::refusals::places;
+use crate::refusals::window_refusal;
+use crate::rows::row;
+use screen::Brick;
+use screen::Screen;
+use separation::Inks;
+use separation::Separation;
+
+// Renders a window, its phases worked out.
+pub fn render(s: Screen, sep: Separation, w: Window, input: &[u8], out: &mut [u8]) -> Rendering
+    ensures answer { λ r. ⌜ r ≡ rendering s sep w (now (input .entry)) (now (out .entry)) ⌝ }
+    ensures cells { λ _. ⌜ now (out .exit) ≡ rendered s sep w (now (input .entry)) (now (out .entry)) ⌝ }
+    ensures demand { λ r. ⌜ Demand3 s sep w (now (input .entry)) (length (now (out .entry))) r (now (out .exit)) ⌝ }
+{
+    let refused = window_refusal(s, w, input.len(), out.len());
+    if refused != 0 {
+        return nothing(refused);
+    }
+    // No cells, and nothing to ask of columns below.
+    if out.len() == 0 {
+        return nothing(0);
+    }
+    let mut table = places();
+    quantiser::thresholds(s, &mut table);
+    let tallies = worked_rows(s, sep, &table, w.x, w.y, w.columns, w.rows, input, out);
+    Rendering {
+        refusal: 0,
+        tallies: tallies,
+    }
+}
+
+// Renders a window, its phases read from a lent brick.
+pub fn render_brick(
+    s: Screen,
+    sep: Separation,
+    w: Window,
+    input: &[u8],
+    brick: &[u16],
+    out: &mut [u8],
+) -> Rendering
+    ensures answer { λ r. ⌜ r ≡ brickRendering s sep w (now (input .entry)) (now (brick .entry)) (now (out .entry)) ⌝ }
+    ensures cells { λ _. ⌜ now (out .exit) ≡ brickRendered s sep w (now (input .entry)) (now (brick .entry)) (now (out .entry)) ⌝ }
+    ensures demand { λ r. ⌜ (TrueBrick s (now (brick .entry)) → Demand3 s sep w (now (input .entry)) (length (now (out .entry))) r (now (out .exit))) ⌝ }
+{
+    let refused = window_refusal(s, w, input.len(), out.len());
+    if refused != 0 {
+        return nothing(refused);
+    }
+    if !brick_due(s, brick) {
+        return nothing(8);
+    }
+    // No cells, and nothing to ask of columns below.
+    if out.len() == 0 {
+        return nothing(0);
+    }
+    let mut table = places();
+    quantiser::thresholds(s, &mut table);
+    let size = screen::brick_of(s);
+    let tallies = read_rows(
+        s.n,
+        sep,
+        &table,
+        brick,
+        size,
+        w.x,
+        w.y,
+        w.columns,
+        w.rows,
+        input,
+        out,
+    );
+    Rendering {
+        refusal: 0,
+        tallies: tallies,
+    }
+}
+
+// The colorant of a lone place, which is a 1 by 1 window.
+pub fn cell_at(s: Screen, sep: Separation, x: u32, y: u32, inks: Inks) -> Cell
+    ensures { λ r. ⌜ r ≡ loneCell s sep x y inks ⌝ }
+{
+    let input = [inks.c, inks.m, inks.y];
+    let mut out = [0u8; 1];
+    let w = Window {
+        x: x,
+        y: y,
+        columns: 1,
+        rows: 1,
+    };
+    let r = render(s, sep, w, &input, &mut out);
+    Cell {
+        refusal: r.refusal,
+        colorant: widened(out[0]),
+    }
+}
+
+// A byte as a longer number. A parameter is known to be a byte; what is read back from lent memory is not.
+fn widened(n: u8) -> u32
+    ensures { λ r. ⌜ r ≡ n ⌝ }
+{
+    n as u32
+}
+
+// An answer with no cell in any colorant.
+fn nothing(refusal: u32) -> Rendering
+    ensures { λ r. ⌜ r ≡ record { refusal = refusal; tallies = upto (λ j. 0) 8 } ⌝ }
+{
+    Rendering {
+        refusal: refusal,
+        tallies: [0u64; 8],
+    }
+}
+
+// Renders the rows of a window, their phases worked out.
+fn worked_rows(
+    s: Screen,
+    sep: Separation,
+    table: &[u16],
+    x: u32,
+    y: u32,
+    columns: u32,
+    rows: u32,
+    input: &[u8],
+    out: &mut [u8],
+) -> [u64; 8]
+    requires { ⌜ Admitted s × WindowInput (s .n) (now table) x y columns rows (length (now input)) (length (now out)) ⌝ }
+    ensures { λ r. ⌜ RowsWritten (s .n) sep (now (table .entry)) (λ u v. phase s (x + u) (y + v)) (now (input .entry)) columns rows r (now (out .exit)) ⌝ }
+{
+    let wide = columns as usize;
+    let step = s.a % s.n;
+    let mut tallies = [0u64; 8];
+    let mut from = 0;
+    for j in 0..rows {
+        let to = from + wide;
+        let phase = screen::phase_at(s, x, y + j).phase;
+        let a = 3 * from;
+        let b = 3 * to;
+        row(
+            s.n,
+            sep,
+            table,
+            phase,
+            step,
+            &input[a..b],
+            &mut out[from..to],
+            &mut tallies,
+        );
+        from = to;
+    }
+    tallies
+}
+
+// Renders the rows of a window, their phases read from a brick.
+fn read_rows(
+    n: u32,
+    sep: Separation,
+    table: &[u16],
+    brick: &[u16],
+    size: Brick,
+    x: u32,
+    y: u32,
+    columns: u32,
+    rows: u32,
+    input: &[u8],
+    out: &mut [u8],
+) -> [u64; 8]
+    requires { ⌜ BrickInput n (size .columns) (size .rows) (size .shift) (now brick) × WindowInput n (now table) x y columns rows (length (now input)) (length (now out)) ⌝ }
+    ensures { λ r. ⌜ RowsWritten n sep (now (table .entry)) (λ u v. getD (now (brick .entry)) (brickPlace (size .columns) (size .rows) (size .shift) (x + u) (y + v)) 0) (now (input .entry)) columns rows r (now (out .exit)) ⌝ }
+{
+    let wide = columns as usize;
+    let mut tallies = [0u64; 8];
+    let mut from = 0;
+    for j in 0..rows {
+        let to = from + wide;
+        let a = 3 * from;
+        let b = 3 * to;
+        brick_row(
+            n,
+            sep,
+            table,
+            brick,
+            size,
+            x,
+            y + j,
+            &input[a..b],
+            &mut out[from..to],
+            &mut tallies,
+        );
+        from = to;
+    }
+    tallies
+}
