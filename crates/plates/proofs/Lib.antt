@@ -1,0 +1,10 @@
+pub mod Published
+mod MaskLaws
+mod PlaceLaws
+mod BitLaws
+mod PlaneLaws
+mod NineLaws
+mod Refusals
+mod ByteLoop
+mod PixelLoops
+mod WriteLoops

@@ -1,0 +1,144 @@
+-- Laws of `mask`: the masks of eight neighbouring pixels halve from 128 to 1, so that a byte is the masks of its bits added up, and each bit is read back from such a sum.
+-- Only the laws of the first part open the definition.
+-- Assumes nothing.
+use Prim.Native.Nat.{ℕ, zero, suc, _+_, _-_, _*_, _/_, _%_, _≤_, _<_}
+use mathlib.Core.Path.{_≡_, refl, sym, ap, ap₂, _∙_}
+use native.Mathlib.Nat.{zero-mul, mul-add-mod-self-left, mul-le-mul-right, mod-eq-of-lt, mod-one}
+use native.Mathlib.Omega.{arith}
+use lib.Arith.{mod-mul}
+use lib.Bits.{bitAnd, and-high}
+use Rattle.arith.specs.Sum.{sumBelow}
+use Rattle.arith.proofs.SumLaws.{sum-same}
+use Rattle.plates.specs.Masks.{mask, bit}
+
+-- ---- the eight masks
+
+-- what holds of each of the numbers 0 to 7
+each : (P : ℕ → Type 0) → P 0 → P 1 → P 2 → P 3 → P 4 → P 5 → P 6 → P 7 → (t : ℕ) → t < 8 → P t
+each P a b c d e f g h zero l = a
+each P a b c d e f g h (suc zero) l = b
+each P a b c d e f g h (suc (suc zero)) l = c
+each P a b c d e f g h (suc (suc (suc zero))) l = d
+each P a b c d e f g h (suc (suc (suc (suc zero)))) l = e
+each P a b c d e f g h (suc (suc (suc (suc (suc zero))))) l = f
+each P a b c d e f g h (suc (suc (suc (suc (suc (suc zero)))))) l = g
+each P a b c d e f g h (suc (suc (suc (suc (suc (suc (suc zero))))))) l = h
+each P a b c d e f g h (suc (suc (suc (suc (suc (suc (suc (suc t)))))))) l = absurd (omega arith)
+
+pub mask-repeats : (b t : ℕ) → mask (8 * b + t) ≡ mask t
+unfolding mask
+mask-repeats b t = rw (mul-add-mod-self-left 8 b t)
+
+mask-first : mask 0 ≡ 128
+unfolding mask
+mask-first = refl
+
+mask-last : mask 7 ≡ 1
+unfolding mask
+mask-last = refl
+
+mask-halves : (t : ℕ) → t < 7 → mask t ≡ 2 * mask (suc t)
+unfolding mask
+mask-halves t l =
+    each (λ t. t < 7 → mask t ≡ 2 * mask (suc t)) (λ l. refl) (λ l. refl) (λ l. refl) (λ l. refl) (λ l. refl) (λ l. refl) (λ l. refl) (λ l. absurd (omega arith))
+    t (omega arith) l
+
+-- the masks of eight pixels, each as often as f says
+masks-out : (f : ℕ → ℕ) → sumBelow 8 (λ t. f t * mask t) ≡ 0 + f 0 * 128 + f 1 * 64 + f 2 * 32 + f 3 * 16 + f 4 * 8 + f 5 * 4 + f 6 * 2 + f 7 * 1
+unfolding sumBelow mask
+masks-out f = refl
+
+-- the bit of each of eight pixels, by its mask
+bits-out : (byte : ℕ) (f : ℕ → ℕ)
+    → (byte / 128 % 2 ≡ f 0) × (byte / 64 % 2 ≡ f 1) × (byte / 32 % 2 ≡ f 2) × (byte / 16 % 2 ≡ f 3) × (byte / 8 % 2 ≡ f 4) × (byte / 4 % 2 ≡ f 5) × (byte / 2 % 2 ≡ f 6) × (byte / 1 % 2 ≡ f 7)
+    → (t : ℕ) → t < 8 → bit byte t ≡ f t
+unfolding mask
+bits-out byte f h = each (λ t. bit byte t ≡ f t) (h .0) (h .1) (h .2) (h .3) (h .4) (h .5) (h .6) (h .7)
+
+-- a byte's digit under the mask of each of eight pixels
+digit-out : (byte t : ℕ) → t < 8 → bitAnd byte (mask t) ≡ bit byte t * mask t
+unfolding mask
+digit-out byte =
+    each (λ t. bitAnd byte (mask t) ≡ bit byte t * mask t) (and-high byte 1 7) (and-high byte 1 6) (and-high byte 1 5) (and-high byte 1 4) (and-high byte 1 3) (and-high byte 1 2) (and-high byte 1 1) (and-high byte 1 0)
+
+-- ---- bytes
+
+-- a mask is at least 1, since 1 is the last
+mask-left : (k t : ℕ) → t + k ≡ 7 → 0 < mask t
+mask-left zero t e =
+    let q : t ≡ 7 = omega arith in
+    rw (q, mask-last) (omega arith)
+mask-left (suc k) t e = omega (arith, mask-left k (suc t) (omega arith), mask-halves t (omega arith))
+
+mask-pos : (x : ℕ) → 0 < mask x
+mask-pos x =
+    let q : x ≡ 8 * (x / 8) + x % 8 = omega arith in
+    rw (q, mask-repeats) (mask-left (7 - x % 8) (x % 8) (omega arith))
+
+-- the digit of a byte under a pixel's mask is 0 exactly where its bit is
+masked : (byte x : ℕ) → bitAnd byte (mask x) ≡ bit byte x * mask x
+masked byte x =
+    let q : x ≡ 8 * (x / 8) + x % 8 = omega arith in
+    rw (q, mask-repeats) (digit-out byte (x % 8) (omega arith))
+
+pub bit-clear : (byte x : ℕ) → bitAnd byte (mask x) ≡ 0 → 0 ≡ bit byte x
+bit-clear byte x e = sym (go (bit byte x) (mask x) (mask-pos x) (sym (masked byte x) ∙ e))
+  where
+    go : (b m : ℕ) → 0 < m → b * m ≡ 0 → b ≡ 0
+    go zero m pos q = refl
+    go (suc b) m pos q = absurd (omega arith)
+
+pub bit-set : (byte x : ℕ) → (bitAnd byte (mask x) ≡ 0 → ⊥) → 1 ≡ bit byte x
+bit-set byte x h = sym (go (bit byte x) (mask x) (omega arith) (λ e. h (masked byte x ∙ e)))
+  where
+    go : (b m : ℕ) → b ≤ 1 → (b * m ≡ 0 → ⊥) → b ≡ 1
+    go zero m l none = absurd (none (zero-mul m))
+    go (suc b) m l none = omega arith
+
+module _ (f : ℕ → ℕ) (ones : (t : ℕ) → f t ≤ 1) where
+  -- the masks so far leave room for all that follow
+  masks-room : (t : ℕ) → t < 8 → sumBelow t (λ i. f i * mask i) + 2 * mask t ≤ 256
+  unfolding sumBelow
+  masks-room zero l = rw mask-first (omega arith)
+  masks-room (suc t) l =
+      omega (arith, masks-room t (omega arith), mask-halves t (omega arith), mul-le-mul-right (mask t) (ones t))
+
+  -- each bit is read back from the masks added up
+  bit-of-masks : (t : ℕ) → t < 8 → bit (sumBelow 8 (λ i. f i * mask i)) t ≡ f t
+  bit-of-masks = rw (masks-out f) (bits-out _ f (go (f 0) (f 1) (f 2) (f 3) (f 4) (f 5) (f 6) (f 7) (ones 0) (ones 1) (ones 2) (ones 3) (ones 4) (ones 5) (ones 6) (ones 7)))
+    where
+      go : (a b c d e f g h : ℕ) → a ≤ 1 → b ≤ 1 → c ≤ 1 → d ≤ 1 → e ≤ 1 → f ≤ 1 → g ≤ 1 → h ≤ 1
+          → let byte : ℕ = 0 + a * 128 + b * 64 + c * 32 + d * 16 + e * 8 + f * 4 + g * 2 + h * 1 in
+          (byte / 128 % 2 ≡ a) × (byte / 64 % 2 ≡ b) × (byte / 32 % 2 ≡ c) × (byte / 16 % 2 ≡ d) × (byte / 8 % 2 ≡ e) × (byte / 4 % 2 ≡ f) × (byte / 2 % 2 ≡ g) × (byte / 1 % 2 ≡ h)
+      go a b c d e f g h p q r s t u v w = (omega arith, omega arith, omega arith, omega arith, omega arith, omega arith, omega arith, omega arith)
+
+-- the masks of a byte's first bits, and what they leave
+masks-of-bits : (byte t : ℕ) → t < 8 → sumBelow (suc t) (λ i. bit byte i * mask i) + byte % mask t ≡ byte % 256
+unfolding sumBelow
+masks-of-bits byte zero l = rw mask-first (omega (arith, mod-mul byte {m = 2} {c = 128} (omega arith) (omega arith)))
+masks-of-bits byte (suc t) l =
+    omega (
+      arith,
+      masks-of-bits byte t (omega arith),
+      ap (λ (m : ℕ). byte % m) (mask-halves t (omega arith)),
+      mod-mul byte {m = 2} {c = mask (suc t)} (omega arith) (mask-left (6 - t) (suc t) (omega arith)),
+    )
+
+-- ---- byte b of a row: pixels 8 * b to 8 * b + 7
+
+module _ (b : ℕ) where
+  from-first : (n : ℕ) (f : ℕ → ℕ) → sumBelow n (λ t. f t * mask (8 * b + t)) ≡ sumBelow n (λ t. f t * mask t)
+  from-first n f = sum-same n _ _ (λ t l. ap (λ (m : ℕ). f t * m) (mask-repeats b t))
+
+  pub byte-room : (f : ℕ → ℕ) → ((t : ℕ) → f t ≤ 1) → (t : ℕ) → t < 8 → sumBelow t (λ i. f i * mask (8 * b + i)) + mask (8 * b + t) < 256
+  byte-room f ones t l = rw (from-first t f, mask-repeats b t) (omega (arith, masks-room f ones t l, mask-left (7 - t) t (omega arith)))
+
+  -- A BIT OF THE MASKS ADDED UP is the one that added its mask
+  pub bit-of-sum : (f : ℕ → ℕ) → ((t : ℕ) → f t ≤ 1) → (t : ℕ) → t < 8 → bit (sumBelow 8 (λ i. f i * mask (8 * b + i))) (8 * b + t) ≡ f t
+  bit-of-sum f ones t l = rw (from-first 8 f, mask-repeats b t) (bit-of-masks f ones t l)
+
+  -- A BYTE is the masks of its bits added up
+  pub sum-of-bits : (byte : ℕ) → byte < 256 → sumBelow 8 (λ t. bit byte (8 * b + t) * mask (8 * b + t)) ≡ byte
+  sum-of-bits byte l =
+      sum-same 8 _ _ (λ t k. ap₂ (λ (m n : ℕ). byte / m % 2 * n) (mask-repeats b t) (mask-repeats b t))
+      ∙ omega (arith, masks-of-bits byte 7 (omega arith), ap (λ (m : ℕ). byte % m) mask-last, mod-one byte, mod-eq-of-lt l)

@@ -1,0 +1,4 @@
+pub mod Masks
+pub mod Planes
+pub mod Refusals
+pub mod Laws

@@ -1,0 +1,36 @@
+// Plates: a window's cells packed into eight planes of bits, one for each colorant, and unpacked again
+// (document 01, 'Plates').
+mod packing;
+mod unpacking;
+
+pub use packing::pack;
+pub use unpacking::unpack;
+ghost use mathlib.Core.Path.{_≡_};
+ghost use Prim.Native.Nat.{_≤_};
+ghost use Rattle.plates.specs.Masks.{mask};
+ghost use Rattle.plates.specs.Planes.{rowBytes};
+ghost use Rattle.plates.specs.Refusals.{onSheet};
+
+const MASKS: [u8; 8] = [128, 64, 32, 16, 8, 4, 2, 1];
+
+// The bit mask of pixel x of a row.
+fn mask_of(x: usize) -> u8
+    ensures { λ r. ⌜ r ≡ mask x ⌝ }
+{
+    MASKS[x % 8]
+}
+
+// Whether a window at the sheet's corner lies on the sheet.
+fn on_sheet(columns: u32, rows: u32) -> bool
+    ensures { λ r. ⌜ r ≡ onSheet columns rows ⌝ }
+{
+    columns <= 65536 && rows <= 65536
+}
+
+// How many bytes a row of a plane has.
+fn row_bytes(columns: usize) -> usize
+    requires { ⌜ columns ≤ 65536 ⌝ }
+    ensures { λ r. ⌜ r ≡ rowBytes columns ⌝ }
+{
+    (columns + 7) / 8
+}
