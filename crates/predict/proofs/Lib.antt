@@ -1,0 +1,5 @@
+pub mod Published
+pub mod Worked
+mod Steps
+mod Exact
+mod WholeLaws

@@ -1,0 +1,4 @@
+pub mod Predicted
+pub mod Paper
+pub mod Laws
+pub mod Marks

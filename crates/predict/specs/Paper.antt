@@ -1,0 +1,51 @@
+-- An answer of `predict` in the paper's numbers: "The lowest number that applies is returned, .. any other returned numbers are 0
+-- (11 carries its colorant)".
+-- Assumes nothing: these are definitions.
+use Prim.Native.Nat.{ℕ}
+use mathlib.Core.Bool.{cond}
+use mathlib.Core.List.{List}
+use lib.Dec.{eqb, ltb}
+use lib.Ieee.{Float}
+use Rattle.arith.specs.Refusal.{orElse, answered}
+use Rattle.screen.specs.declared.Screen.{Screen}
+use Rattle.screen.specs.Screens.{refusalOf}
+use Rattle.separation.specs.declared.Separation.{Separation}
+use Rattle.separation.specs.declared.Inks.{Inks}
+use Rattle.quantiser.specs.Running.{count}
+use Rattle.predict.specs.declared.Xyz.{Xyz}
+use Rattle.predict.specs.declared.Prediction.{Prediction}
+use Rattle.predict.specs.declared.Prediction.the-variants.{Colour, BadPrimary, BadScreen}
+use Rattle.predict.specs.Predicted.{plusZero, primary, firstBad, channel}
+
+-- the refusal's number, 0 where there is none; the colorant that 11 carries; and X, Y and Z
+pub record Paper : Type 0 where
+  pub refusal : ℕ
+  pub colorant : ℕ
+  pub x : Float
+  pub y : Float
+  pub z : Float
+
+-- the paper's number and values for each case of the answer
+abbrev pub paperOf : Prediction → Paper
+paperOf (Colour x y z) = record { refusal = 0; colorant = 0; x = x; y = y; z = z }
+paperOf (BadPrimary j) = record { refusal = 11; colorant = j; x = plusZero; y = plusZero; z = plusZero }
+paperOf (BadScreen number) = record { refusal = number; colorant = 0; x = plusZero; y = plusZero; z = plusZero }
+
+-- "11: a primary value not 0 to 200 (NaN included)", after 1 to 4
+unfoldable pub predictRefusal : Screen → List Xyz → ℕ
+predictRefusal s ps = orElse (refusalOf s) (cond (ltb (firstBad ps) 8) 11 0)
+
+-- a value of the colour, where the call is not refused
+abbrev pub valued : ℕ → Float → Float
+valued refusal v = cond (eqb refusal 0) v plusZero
+
+-- what the rules say of a call
+unfoldable pub ruled : Screen → Separation → Inks → List Xyz → Paper
+ruled s sep inks ps =
+    record {
+      refusal = predictRefusal s ps;
+      colorant = answered (refusalOf s) (cond (ltb (firstBad ps) 8) (firstBad ps) 0);
+      x = valued (predictRefusal s ps) (channel (count s sep inks) (s .n) (λ j. primary ps j .x));
+      y = valued (predictRefusal s ps) (channel (count s sep inks) (s .n) (λ j. primary ps j .y));
+      z = valued (predictRefusal s ps) (channel (count s sep inks) (s .n) (λ j. primary ps j .z));
+    }

@@ -1,0 +1,74 @@
+-- Document 01, 'Predicted colour'. Numbers and operations are those of IEEE 754's binary64, as the library lib.Ieee defines them:
+-- `add`, `mul`, `div` and `ofInt` round once, to nearest, ties to even.
+-- Assumes nothing: these are definitions.
+use Prim.Native.Nat.{ℕ, zero, suc}
+use mathlib.Core.Bool.{Bool, true, false, not, _&&_}
+use mathlib.Core.List.{List}
+use lib.Dec.{eqb, ltb}
+use lib.IntN.{pos}
+use lib.ListN.{getD}
+use lib.Ieee.{Float, nan, fin, binary64, add, mul, div, le, ofInt}
+use Rattle.arith.specs.First.{firstBelow}
+use Rattle.screen.specs.declared.Screen.{Screen}
+use Rattle.screen.specs.Screens.{refusalOf}
+use Rattle.separation.specs.declared.Separation.{Separation}
+use Rattle.separation.specs.declared.Inks.{Inks}
+use Rattle.quantiser.specs.Running.{count}
+use Rattle.predict.specs.declared.Xyz.{Xyz}
+use Rattle.predict.specs.declared.Prediction.{Prediction}
+use Rattle.predict.specs.declared.Prediction.the-variants.{Colour, BadPrimary, BadScreen}
+
+-- +0, and 200 as 25 × 2 ^ 3
+abbrev pub plusZero : Float
+plusZero = fin false 0 (pos 0)
+
+abbrev pub limit : Float
+limit = fin false 25 (pos 3)
+
+-- "Eight primaries, each an X, Y, Z record of f64 values": that of colorant j. The NaNs stand for a ninth, which no call has.
+abbrev pub primary : List Xyz → ℕ → Xyz
+primary ps j = getD ps j (record { x = nan; y = nan; z = nan })
+
+-- "every one at least 0 and at most 200": IEEE's comparison, by which -0 is 0 and a NaN is neither
+abbrev pub within : Float → Bool
+within v = le plusZero v && le v limit
+
+abbrev pub admitted : Xyz → Bool
+admitted p = within (p .x) && within (p .y) && within (p .z)
+
+-- "the number of the first colorant with a bad value", and 8 where there is none
+unfoldable pub firstBad : List Xyz → ℕ
+firstBad ps = firstBelow 8 (λ j. not (admitted (primary ps j)))
+
+-- "add count × value"
+abbrev pub more : Float → ℕ → Float → Float
+more sum c v = add binary64 sum (mul binary64 (ofInt binary64 (pos c)) v)
+
+-- "begin with 0, add count × value for colorants 0 to 7 in order": the sum over the first k colorants, by their counts and values
+unfoldable pub total : ℕ → (ℕ → ℕ) → (ℕ → Float) → Float
+total zero c v = plusZero
+total (suc k) c v = more (total k c v) (c k) (v k)
+
+-- "divide by N"
+unfoldable pub channel : (ℕ → ℕ) → ℕ → (ℕ → Float) → Float
+channel c n v = div binary64 (total 8 c v) (ofInt binary64 (pos n))
+
+-- "For each of X, Y, Z"
+abbrev pub totals : ℕ → (ℕ → ℕ) → List Xyz → Xyz
+totals k c ps = record { x = total k c (λ j. primary ps j .x); y = total k c (λ j. primary ps j .y); z = total k c (λ j. primary ps j .z) }
+
+abbrev pub meanOf : (ℕ → ℕ) → ℕ → List Xyz → Prediction
+meanOf c n ps = Colour (channel c n (λ j. primary ps j .x)) (channel c n (λ j. primary ps j .y)) (channel c n (λ j. primary ps j .z))
+
+-- one answer or another
+abbrev pub pick : Bool → Prediction → Prediction → Prediction
+pick true a b = a
+pick false a b = b
+
+-- What `predict` answers: "either the triple or the number of the first colorant with a bad value; a bad screen is refused before
+-- that, by 1 to 4".
+unfoldable pub predicted : Screen → Separation → Inks → List Xyz → Prediction
+predicted s sep inks ps =
+    pick (eqb (refusalOf s) 0)
+    (pick (ltb (firstBad ps) 8) (BadPrimary (firstBad ps)) (meanOf (count s sep inks) (s .n) ps))
+    (BadScreen (refusalOf s))

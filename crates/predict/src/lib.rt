@@ -1,0 +1,102 @@
+// Predicted colour: the mean of the primaries over a screen's cells (document 01, 'Predicted colour').
+ghost use mathlib.Core.Path.{_≡_};
+ghost use lib.ListN.{getD};
+ghost use Rattle.predict.specs.Predicted.{within, admitted, firstBad, more, totals, meanOf, predicted};
+ghost use Rattle.predict.specs.Paper.{paperOf, ruled};
+use screen::Screen;
+use separation::Inks;
+use separation::Separation;
+
+// A colour's X, Y and Z: a primary, a running sum or a mean.
+pub struct Xyz {
+    pub x: f64,
+    pub y: f64,
+    pub z: f64,
+}
+
+// The predicted X, Y and Z, the first colorant with a bad value, or what refuses the screen.
+pub enum Prediction {
+    Colour(f64, f64, f64),
+    BadPrimary(u32),
+    BadScreen(u32),
+}
+
+// The colour that a screen's cells give together for one ink triple, each colorant being as its primary.
+pub fn predict(s: Screen, sep: Separation, inks: Inks, primaries: [Xyz; 8]) -> Prediction
+    ensures answer { λ r. ⌜ r ≡ predicted s sep inks primaries ⌝ }
+    ensures paper { λ r. ⌜ paperOf r ≡ ruled s sep inks primaries ⌝ }
+{
+    let counts = quantiser::counts(s, sep, inks);
+    if counts.refusal != 0 {
+        return Prediction::BadScreen(counts.refusal);
+    }
+    let bad = first_bad(primaries);
+    if bad < 8 {
+        return Prediction::BadPrimary(bad);
+    }
+    let of = counts.of;
+    mean(of, s.n, primaries)
+}
+
+// The first colorant with a value that is not admitted, or 8.
+fn first_bad(primaries: [Xyz; 8]) -> u32
+    ensures { λ r. ⌜ r ≡ firstBad primaries ⌝ }
+{
+    let mut first = 0;
+    while first < 8 {
+        if !is_admitted(primaries[first as usize]) {
+            return first;
+        }
+        first += 1;
+    }
+    8
+}
+
+fn is_admitted(p: Xyz) -> bool
+    ensures { λ r. ⌜ r ≡ admitted p ⌝ }
+{
+    in_range(p.x) && in_range(p.y) && in_range(p.z)
+}
+
+// Whether a value is at least 0 and at most 200; a NaN is neither.
+fn in_range(v: f64) -> bool
+    ensures { λ r. ⌜ r ≡ within v ⌝ }
+{
+    if v >= 0.0 { v <= 200.0 } else { false }
+}
+
+// The sum over the colorants, divided by the number of cells.
+fn mean(counts: [u32; 8], n: u32, primaries: [Xyz; 8]) -> Prediction
+    ensures { λ r. ⌜ r ≡ meanOf (λ j. getD counts j 0) n primaries ⌝ }
+{
+    let sum = total(counts, primaries);
+    let cells = n as f64;
+    Prediction::Colour(sum.x / cells, sum.y / cells, sum.z / cells)
+}
+
+// The sum over the colorants, in order, of each count times the primary.
+fn total(counts: [u32; 8], primaries: [Xyz; 8]) -> Xyz
+    ensures { λ r. ⌜ r ≡ totals 8 (λ j. getD counts j 0) primaries ⌝ }
+{
+    let mut sum = Xyz {
+        x: 0.0,
+        y: 0.0,
+        z: 0.0,
+    };
+    for j in 0..8 {
+        sum = added(sum, counts[j], primaries[j]);
+    }
+    sum
+}
+
+// A sum with a count times a primary added.
+fn added(sum: Xyz, count: u32, p: Xyz) -> Xyz
+    ensures { λ r. ⌜ r ≡ record { x = more (sum .x) count (p .x); y = more (sum .y) count (p .y); z = more (sum .z) count (p .z) } ⌝ }
+{
+    let times = count as f64;
+    Xyz {
+        x: sum.x + times * p.x,
+        y: sum.y + times * p.y,
+        z: sum.z + times * p.z,
+    }
+}
