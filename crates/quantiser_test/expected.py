@@ -3,7 +3,7 @@
     PYTHONPATH=scripts python3 -B crates/quantiser_test/expected.py > crates/quantiser_test/stdout
 """
 
-from rules import SEPARATIONS, TOP, cells, colorants, counts, drawn, numbers, refusal, scale, weights
+from rules import SEPARATIONS, TOP, cells, colorants, counts, drawn, lent, numbers, refusal, scale, weights
 
 
 def thresholds(s):
@@ -27,11 +27,7 @@ def show_both(s, inks):
 
 
 def show_table(s, places):
-    table = [65535] * 24
-    r = refusal(s) or (8 if places < s[2] else 0)
-    if not r:
-        table[: s[2]] = thresholds(s)
-    print(f"{numbers(s)}, {places}: {r}; {numbers(table)}")
+    print(f"{numbers(s)}, {places}: {lent(s, places, 24, thresholds)}")
 
 
 def show_phases(s, inks):

@@ -3,7 +3,7 @@
     PYTHONPATH=scripts python3 -B crates/screen_test/expected.py > crates/screen_test/stdout
 """
 
-from rules import TOP, brick, brick_phases, numbers, phase, refusal
+from rules import TOP, brick, brick_phases, lent, numbers, phase, refusal
 
 
 def place(s, x, y):
@@ -20,11 +20,7 @@ def show(s):
 
 
 def show_filled(s, places):
-    buffer = [65535] * 72
-    r = refusal(s) or (8 if places < s[2] else 0)
-    if not r:
-        buffer[: s[2]] = brick_phases(s)
-    print(f"{numbers(s)}, {places}: {r}; {numbers(buffer)}")
+    print(f"{numbers(s)}, {places}: {lent(s, places, 72, brick_phases)}")
 
 
 print("# a b n k g: refusal; L H S; refusal and phase of (0, 1), of (3, 2)")

@@ -72,11 +72,11 @@ module _ (n : ℕ) (passes : ℕ → Bool) where
 
 -- A loop that counts up to the first number: it has not passed it, and goes on exactly while the test fails.
 module _ (n : ℕ) (passes : ℕ → Bool) (i : ℕ) (up-to : i ≤ firstBelow n passes) where
-  pub first-ahead : firstBelow n passes < n → passes i ≡ false → i < firstBelow n passes
+  pub first-ahead : i < n → passes i ≡ false → i < firstBelow n passes
   first-ahead l e = go (eq-or-lt-of-le up-to)
     where
       go : (i ≡ firstBelow n passes) ⊎ (i < firstBelow n passes) → i < firstBelow n passes
-      go (inl q) = absurd (true≢false (sym (first-passes n passes l) ∙ ap passes (sym q) ∙ e))
+      go (inl q) = absurd (true≢false (sym (first-passes n passes (omega arith)) ∙ ap passes (sym q) ∙ e))
       go (inr h) = h
 
   pub first-reached : passes i ≡ true → i ≡ firstBelow n passes
@@ -85,6 +85,32 @@ module _ (n : ℕ) (passes : ℕ → Bool) (i : ℕ) (up-to : i ≤ firstBelow n
       go : (i ≡ firstBelow n passes) ⊎ (i < firstBelow n passes) → i ≡ firstBelow n passes
       go (inl q) = q
       go (inr h) = absurd (true≢false (sym e ∙ none-before n passes i h))
+
+-- A loop that looks at one number after the other and answers at the first that passes.
+pub record Searching (n : ℕ) (passes : ℕ → Bool) (i : ℕ) : Type 0 where
+  pub within : i ≤ n
+  pub up-to : i ≤ firstBelow n passes
+
+pub searching-start : (n : ℕ) (passes : ℕ → Bool) → Searching n passes 0
+searching-start n passes = record { within = omega arith; up-to = omega arith }
+
+module _ {n : ℕ} {passes : ℕ → Bool} {i : ℕ} (s : Searching n passes i) where
+  pub searching-on : i < n → passes i ≡ false → Searching n passes (i + 1)
+  searching-on l e = record { within = omega arith; up-to = omega (arith, first-ahead n passes i (s .up-to) l e) }
+
+  pub searching-found : passes i ≡ true → i ≡ firstBelow n passes
+  searching-found e = first-reached n passes i (s .up-to) e
+
+  pub searching-end : n ≤ i → n ≡ firstBelow n passes
+  searching-end h = omega (arith, s .up-to, first-within n passes)
+
+-- where none passes, the search comes to its end
+pub first-none : (n : ℕ) (passes : ℕ → Bool) → ((i : ℕ) → i < n → passes i ≡ false) → firstBelow n passes ≡ n
+first-none n passes fails = go (eq-or-lt-of-le (first-within n passes))
+  where
+    go : (firstBelow n passes ≡ n) ⊎ (firstBelow n passes < n) → firstBelow n passes ≡ n
+    go (inl q) = q
+    go (inr l) = absurd (true≢false (sym (first-passes n passes l) ∙ fails _ l))
 
 -- THE NUMBER THAT PASSES WHILE NONE BEFORE IT DOES is the first
 pub first-is : (n : ℕ) (passes : ℕ → Bool) (j : ℕ) → j < n → passes j ≡ true → ((i : ℕ) → i < j → passes i ≡ false) → firstBelow n passes ≡ j

@@ -2,13 +2,21 @@
 -- Assumes nothing.
 use Prim.Native.Nat.{ℕ, suc}
 use mathlib.Core.Path.{_≡_, refl, sym, ap, _∙_}
-use mathlib.Core.Bool.{Bool, true, false, _&&_, cond, false≢true}
-use mathlib.Core.List.{List, _++_}
+use mathlib.Core.Bool.{Bool, true, false, _&&_, cond, not, false≢true}
+use mathlib.Core.List.{List, _++_, append-nil}
 use native.Mathlib.Nat.{suc-ne-zero}
 use native.Mathlib.Decide.{ℕ-discrete}
 use lib.ListN.{length, drop}
-use borrow.Author.Tests.{eq-eqb, ne-eqb}
+use lib.Seq.{drop-length}
+use borrow.Author.Tests.{not-true, not-false, eq-eqb, ne-eqb}
 use Rattle.arith.specs.Refusal.{unless, orElse, answered, written}
+
+-- A TEST'S ANSWER, from the function that makes it and the branch that was taken on its negation
+pub failed : {answer test : Bool} → answer ≡ test → not answer ≡ true → test ≡ false
+failed e n = sym e ∙ not-true _ n
+
+pub passed : {answer test : Bool} → answer ≡ test → not answer ≡ false → test ≡ true
+passed e n = sym e ∙ not-false _ n
 
 -- two tests that pass together each pass
 pub both-pass : (t u : Bool) → (t && u) ≡ true → (t ≡ true) × (u ≡ true)
@@ -39,6 +47,14 @@ module _ (refusal : ℕ) (run memory : List ℕ) where
 
   pub written-whole : (n : ℕ) → refusal ≡ 0 → length run ≡ n → written refusal run memory ≡ run ++ drop n memory
   written-whole n e l = ap (λ (t : Bool). cond t (run ++ drop (length run) memory) memory) (eq-eqb refusal 0 e) ∙ rw l
+
+  -- a run as long as the memory takes its place
+  pub written-all : refusal ≡ 0 → length run ≡ length memory → written refusal run memory ≡ run
+  written-all e l = written-whole (length memory) e l ∙ rw drop-length (append-nil run)
+
+  -- what a refused call answers and leaves
+  pub written-refused : {r : ℕ} → r ≡ refusal → (r ≡ 0 → ⊥) → (r ≡ refusal) × (memory ≡ written refusal run memory)
+  written-refused e h = (e, sym (written-none (λ z. h (e ∙ z))))
 
 -- a call that is not refused is refused neither at first nor later
 pub or-none : (refusal later : ℕ) → orElse refusal later ≡ 0 → (refusal ≡ 0) × (later ≡ 0)

@@ -1,14 +1,15 @@
 -- Laws of `upto`.
 -- Assumes nothing.
 use mathlib.Core.Path.{_≡_, refl, sym, ap, _∙_}
-use Prim.Native.Nat.{ℕ, zero, suc, _+_, _≤_, _<_}
+use Prim.Native.Nat.{ℕ, zero, suc, _+_, _-_, _≤_, _<_}
 use native.Mathlib.Nat.{add-zero, add-suc}
 use native.Mathlib.Numerals.{add-one}
 use native.Mathlib.Decide.{decLt}
 use native.Mathlib.Omega.{arith}
 use mathlib.Core.List.{List, [], _∷_, _++_, append-nil, append-assoc}
-use lib.ListN.{length, getD, set, drop, length-append, length-drop, drop-of-length-le, List·getD-append}
-use lib.Seq.{set-at, getD-at, drop-cons, append-snoc}
+use lib.ListN.{length, getD, set, take, drop, length-append, length-take, length-drop, drop-of-length-le, List·getD-append}
+use lib.Seq.{set-at, getD-at, take-at, drop-at, drop-drop, drop-cons, append-snoc}
+use borrow.Rule.Slice.PartMut.{putMid}
 use Rattle.arith.specs.Run.{upto}
 
 pub upto-length : (f : ℕ → ℕ) (n : ℕ) → length (upto f n) ≡ n
@@ -51,6 +52,10 @@ upto-store f l i h =
 pub upto-over : (f : ℕ → ℕ) (l : List ℕ) (i : ℕ) → i ≤ length l → length (upto f i ++ drop i l) ≡ length l
 upto-over f l i h = simp (length-append, upto-length, length-drop) (omega arith)
 
+-- a part of k places has k of them
+pub part-length : (i k : ℕ) (l : List ℕ) → i + k ≤ length l → length (take (i + k - i) (drop i l)) ≡ k
+part-length i k l h = simp (length-take, length-drop) (omega arith)
+
 -- ---- a loop that writes a run from its first place on
 
 -- the first i places of l₀ have become the first i elements, and the others are as they were
@@ -68,6 +73,14 @@ module _ {f : ℕ → ℕ} {l₀ l : List ℕ} {i : ℕ} (r : Filling f l₀ l i
 
   pub filling-store : (v : ℕ) → i < length l₀ → v ≡ f i → Filling f l₀ (set l i v) (i + 1)
   filling-store v h e = record { within = omega arith; cells = rw (r .cells, e) (upto-store f l₀ i h) }
+
+  -- the next k places are lent and come back as the next k elements
+  pub filling-part : (k : ℕ) (part : List ℕ) → i + k ≤ length l₀ → part ≡ upto (λ j. f (i + j)) k → Filling f l₀ (putMid i (i + k - i) l part) (i + k)
+  filling-part k part room e =
+      let size : i + k - i ≡ k = omega arith in
+      let front : take i l ≡ upto f i = rw (r .cells) (take-at (upto f i) (drop i l₀) i (upto-length f i)) in
+      let back : drop i l ≡ drop i l₀ = rw (r .cells) (drop-at (upto f i) (drop i l₀) i (upto-length f i)) in
+      record { within = room; cells = rw (size, front, back, drop-drop, e, upto-add f i k, append-assoc) }
 
   -- at the end of the list
   pub filling-whole : (n : ℕ) → length l₀ ≡ n → n ≤ i → l ≡ upto f n

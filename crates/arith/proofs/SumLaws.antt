@@ -4,7 +4,7 @@ use Prim.Native.Nat.{ℕ, zero, suc, _+_, _-_, _*_, _/_, _%_, _≤_, _<_}
 use mathlib.Core.Path.{_≡_, refl, sym, ap, ap₂, _∙_}
 use mathlib.Core.Logic.{_⊎_, inl, inr, _≢_}
 use native.Mathlib.Nat.{le-refl, le-step, le-of-suc-le-suc, not-suc-le-zero, eq-or-lt-of-le, ne-of-lt, add-zero, add-suc, sub-add-cancel, add-sub-of-le, zero-mul, mul-zero, mul-one, suc-mul}
-use native.Mathlib.Decide.{ℕ-discrete}
+use native.Mathlib.Decide.{ℕ-discrete, decLt}
 use native.Mathlib.Omega.{arith}
 use lib.Dec.{eqb, ltb}
 use lib.Arith.{digits-div, digits-mod}
@@ -198,3 +198,19 @@ sum-along n k h g low once =
         (λ t l f. ap (λ (c : ℕ). g t * c) (indicator-none (λ e. f (sym e))) ∙ mul-zero (g t))
         ∙ ap (λ (c : ℕ). g (h i) * c) (indicator-one {a = h i} refl)
         ∙ mul-one (g (h i))
+
+sum-last : (i : ℕ) (f : ℕ → ℕ) → sumBelow (suc i) f ≡ sumBelow i f + f i
+unfolding sumBelow
+sum-last i f = refl
+
+-- OF NUMBERS THAT ADD UP TO ONE OF THEM the others are 0
+pub sum-alone : (n : ℕ) (f : ℕ → ℕ) (h : ℕ) → h < n → sumBelow n f ≡ f h → (k : ℕ) → k < n → (k ≡ h → ⊥) → f k ≡ 0
+sum-alone n f h l e k m apart = go (decLt k h)
+  where
+    -- two of them are no more than all
+    two : (i j : ℕ) → i < n → j < i → f i + f j ≤ sumBelow n f
+    two i j a b = omega (arith, sum-last j f, sum-last i f, sum-fewer (suc j) i f b, sum-fewer (suc i) n f a)
+
+    go : Dec (k < h) → f k ≡ 0
+    go (yes below) = omega (arith, two h k l below)
+    go (no above) = omega (arith, two k h m (omega arith))

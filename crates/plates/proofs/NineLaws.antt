@@ -15,7 +15,7 @@ use Rattle.arith.specs.Refusal.{unless, orElse}
 use Rattle.arith.proofs.RefusalLaws.{refused-first, refused-later}
 use Rattle.arith.specs.Every.{every}
 use Rattle.plates.specs.Planes.{rowBytes, bitAt, planesWith, colorantsOnly, pixelsOnce, paddingClear}
-use Rattle.plates.specs.Refusals.{onSheet, sizeRefusal, packSize, unpackSize, packRefusal, unpackRefusal}
+use Rattle.plates.specs.Refusals.{onSheet, lengthsRefusal, sizeRefusal, packSize, unpackSize, packRefusal, unpackRefusal}
 use Rattle.plates.specs.Laws.{BadByte, PackNine, BadPixel, BadPadding, UnpackNine}
 use Rattle.arith.proofs.EveryLaws.{every-fails, every-offender}
 use Rattle.plates.proofs.PlaceLaws.{plane-row, plane-of, row-in-plane}
@@ -33,7 +33,7 @@ size-no-nine true true true e = omega arith
 -- so a call that is refused by 9 has the right sizes, and its content fails the test
 nine-late : (columns rows input stated output due : ℕ) (test : Bool) → orElse (sizeRefusal columns rows input stated output due) (unless test 9 0) ≡ 9
     → (sizeRefusal columns rows input stated output due ≡ 0) × (test ≡ false)
-unfolding sizeRefusal
+unfolding sizeRefusal lengthsRefusal
 nine-late columns rows input stated output due test e = go (ℕ-discrete size 0)
   where
     size : ℕ

@@ -1,24 +1,16 @@
 -- Refusals from the tests that a call makes, one law a number; and what a call leaves in lent memory, refused or not.
 -- Assumes nothing.
 use Prim.Native.Nat.{ℕ, suc, _≤_}
-use mathlib.Core.Path.{_≡_, sym, _∙_}
-use mathlib.Core.Bool.{Bool, true, false, _&&_, not}
+use mathlib.Core.Path.{_≡_, refl, sym, _∙_}
+use mathlib.Core.Bool.{true, false, _&&_}
 use mathlib.Core.List.{List, append-nil}
 use native.Mathlib.Nat.{suc-ne-zero, le-of-eq}
 use lib.ListN.{length, drop-of-length-le}
-use borrow.Author.Tests.{not-true, not-false, leb-true, eqb-true, eq-eqb, ne-eqb}
-use Rattle.arith.proofs.RefusalLaws.{both-pass, unless-none, refused-first, refused-later, or-none, written-none, written-whole}
+use borrow.Author.Tests.{leb-true, eqb-true, eq-eqb, ne-eqb}
+use Rattle.arith.proofs.RefusalLaws.{both-pass, unless-none, refused-first, refused-later, or-none, written-all, written-refused}
 use Rattle.arith.proofs.RunLaws.{upto-length}
 use Rattle.plates.specs.Planes.{planesLength, cellsLength, planesOf, cellsOf, colorantsOnly, pixelsOnce, paddingClear}
-use Rattle.plates.specs.Refusals.{onSheet, sizeRefusal, packSize, unpackSize, packRefusal, unpackRefusal, packed, unpacked}
-
--- ---- a test's answer, from the function that makes it and the branch that was taken on its negation
-
-pub failed : {answer test : Bool} → answer ≡ test → not answer ≡ true → test ≡ false
-failed e n = sym e ∙ not-true _ n
-
-pub passed : {answer test : Bool} → answer ≡ test → not answer ≡ false → test ≡ true
-passed e n = sym e ∙ not-false _ n
+use Rattle.plates.specs.Refusals.{onSheet, lengthsRefusal, sizeRefusal, packSize, unpackSize, packRefusal, unpackRefusal, packed, unpacked}
 
 -- ---- 5 to 7: the sizes
 
@@ -26,28 +18,39 @@ pub sheet-kept : (columns rows : ℕ) → onSheet columns rows ≡ true → (col
 unfolding onSheet
 sheet-kept columns rows e = let parts = both-pass _ _ e in (leb-true _ _ (parts .0), leb-true _ _ (parts .1))
 
+module _ (input stated output due : ℕ) where
+  pub length-6 : (input ≡ stated → ⊥) → 6 ≡ lengthsRefusal input stated output due
+  unfolding lengthsRefusal
+  length-6 h = rw (ne-eqb _ _ h)
+
+  module _ (fits : input ≡ stated) where
+    pub length-7 : (output ≡ due → ⊥) → 7 ≡ lengthsRefusal input stated output due
+    unfolding lengthsRefusal
+    length-7 h = rw (eq-eqb _ _ fits, ne-eqb _ _ h)
+
+    pub length-0 : output ≡ due → 0 ≡ lengthsRefusal input stated output due
+    unfolding lengthsRefusal
+    length-0 e = rw (eq-eqb _ _ fits, eq-eqb _ _ e)
+
 module _ (columns rows input stated output due : ℕ) where
-  pub size-5 : onSheet columns rows ≡ false → sizeRefusal columns rows input stated output due ≡ 5
+  pub size-5 : onSheet columns rows ≡ false → 5 ≡ sizeRefusal columns rows input stated output due
   unfolding sizeRefusal
   size-5 e = rw e
 
-  module _ (sheet : onSheet columns rows ≡ true) where
-    pub size-6 : (input ≡ stated → ⊥) → sizeRefusal columns rows input stated output due ≡ 6
-    unfolding sizeRefusal
-    size-6 h = rw (sheet, ne-eqb _ _ h)
+  pub size-lengths : onSheet columns rows ≡ true → lengthsRefusal input stated output due ≡ sizeRefusal columns rows input stated output due
+  unfolding sizeRefusal
+  size-lengths e = rw e
 
-    module _ (fits : input ≡ stated) where
-      pub size-7 : (output ≡ due → ⊥) → sizeRefusal columns rows input stated output due ≡ 7
-      unfolding sizeRefusal
-      size-7 h = rw (sheet, eq-eqb _ _ fits, ne-eqb _ _ h)
+  -- the sizes are right where the sheet's test has passed and that of the lengths has answered 0
+  pub size-passed : {r : ℕ} → onSheet columns rows ≡ true → r ≡ lengthsRefusal input stated output due → r ≡ 0 → sizeRefusal columns rows input stated output due ≡ 0
+  size-passed sheet e z = sym (size-lengths sheet) ∙ sym e ∙ z
 
-      pub size-right : output ≡ due → sizeRefusal columns rows input stated output due ≡ 0
-      unfolding sizeRefusal
-      size-right e = rw (sheet, eq-eqb _ _ fits, eq-eqb _ _ e)
+  pub size-right : onSheet columns rows ≡ true → input ≡ stated → output ≡ due → sizeRefusal columns rows input stated output due ≡ 0
+  size-right sheet fits e = size-passed sheet (length-0 input stated output due fits e) refl
 
   -- what a call of the right sizes keeps
   pub size-kept : sizeRefusal columns rows input stated output due ≡ 0 → (onSheet columns rows ≡ true) × (input ≡ stated) × (output ≡ due)
-  unfolding sizeRefusal
+  unfolding sizeRefusal lengthsRefusal
   size-kept e =
       let five = unless-none (onSheet columns rows) 4 _ e in
       let six = unless-none _ 5 _ (five .1) in
@@ -57,52 +60,36 @@ module _ (columns rows input stated output due : ℕ) where
 -- ---- packing
 
 module _ (columns rows : ℕ) (cells memory : List ℕ) where
-  -- a refused call returns its number and leaves the memory
-  pack-refused : (n : ℕ) → packRefusal columns rows cells (length memory) ≡ suc n
-      → (suc n ≡ packRefusal columns rows cells (length memory)) × (memory ≡ packed columns rows cells memory)
-  unfolding packed
-  pack-refused n e =
-      (sym e, sym (written-none (packRefusal columns rows cells (length memory)) (planesOf columns rows cells) memory (λ z. suc-ne-zero n (sym e ∙ z))))
-
-  pub pack-size : (n : ℕ) → packSize columns rows (length cells) (length memory) ≡ suc n
-      → (suc n ≡ packRefusal columns rows cells (length memory)) × (memory ≡ packed columns rows cells memory)
-  unfolding packRefusal
-  pack-size n e = pack-refused n (refused-first (packSize columns rows (length cells) (length memory)) _ (λ z. suc-ne-zero n (sym e ∙ z)) ∙ e)
+  -- refused by its sizes, by its content, and not refused
+  pub pack-size : {r : ℕ} → r ≡ packSize columns rows (length cells) (length memory) → (r ≡ 0 → ⊥)
+      → (r ≡ packRefusal columns rows cells (length memory)) × (memory ≡ packed columns rows cells memory)
+  unfolding packRefusal packed
+  pack-size e h = written-refused _ (planesOf columns rows cells) memory (e ∙ sym (refused-first (packSize columns rows (length cells) (length memory)) _ (λ z. h (e ∙ z)))) h
 
   module _ (size : packSize columns rows (length cells) (length memory) ≡ 0) where
     pub pack-9 : colorantsOnly cells ≡ false → (9 ≡ packRefusal columns rows cells (length memory)) × (memory ≡ packed columns rows cells memory)
-    unfolding packRefusal
-    pack-9 e = pack-refused 8 (refused-later (packSize columns rows (length cells) (length memory)) _ size ∙ rw e)
+    unfolding packRefusal packed
+    pack-9 e = written-refused _ (planesOf columns rows cells) memory (sym (refused-later (packSize columns rows (length cells) (length memory)) _ size ∙ rw e)) (suc-ne-zero 8)
 
     pub pack-0 : colorantsOnly cells ≡ true → (0 ≡ packRefusal columns rows cells (length memory)) × (planesOf columns rows cells ≡ packed columns rows cells memory)
     unfolding packRefusal packed planesOf
     pack-0 e =
         let none : packRefusal columns rows cells (length memory) ≡ 0 = refused-later (packSize columns rows (length cells) (length memory)) _ size ∙ rw e in
-        let due = size-kept _ _ _ _ _ _ size .2 in (
-          sym none,
-          sym (written-whole (packRefusal columns rows cells (length memory)) (planesOf columns rows cells) memory (planesLength columns rows) none (upto-length _ (planesLength columns rows))
-              ∙ rw (drop-of-length-le memory {i = planesLength columns rows} (le-of-eq due)) (append-nil _)),
-        )
+        (sym none, sym (written-all _ (planesOf columns rows cells) memory none (upto-length _ (planesLength columns rows) ∙ sym (size-kept _ _ _ _ _ _ size .2))))
 
 -- ---- unpacking
 
 module _ (columns rows : ℕ) (planes memory : List ℕ) where
-  unpack-refused : (n : ℕ) → unpackRefusal columns rows planes (length memory) ≡ suc n
-      → (suc n ≡ unpackRefusal columns rows planes (length memory)) × (memory ≡ unpacked columns rows planes memory)
-  unfolding unpacked
-  unpack-refused n e =
-      (sym e, sym (written-none (unpackRefusal columns rows planes (length memory)) (cellsOf columns rows planes) memory (λ z. suc-ne-zero n (sym e ∙ z))))
-
-  pub unpack-size : (n : ℕ) → unpackSize columns rows (length planes) (length memory) ≡ suc n
-      → (suc n ≡ unpackRefusal columns rows planes (length memory)) × (memory ≡ unpacked columns rows planes memory)
-  unfolding unpackRefusal
-  unpack-size n e = unpack-refused n (refused-first (unpackSize columns rows (length planes) (length memory)) _ (λ z. suc-ne-zero n (sym e ∙ z)) ∙ e)
+  pub unpack-size : {r : ℕ} → r ≡ unpackSize columns rows (length planes) (length memory) → (r ≡ 0 → ⊥)
+      → (r ≡ unpackRefusal columns rows planes (length memory)) × (memory ≡ unpacked columns rows planes memory)
+  unfolding unpackRefusal unpacked
+  unpack-size e h = written-refused _ (cellsOf columns rows planes) memory (e ∙ sym (refused-first (unpackSize columns rows (length planes) (length memory)) _ (λ z. h (e ∙ z)))) h
 
   module _ (size : unpackSize columns rows (length planes) (length memory) ≡ 0) where
     unpack-9 : (pixelsOnce columns rows planes && paddingClear columns rows planes) ≡ false
         → (9 ≡ unpackRefusal columns rows planes (length memory)) × (memory ≡ unpacked columns rows planes memory)
-    unfolding unpackRefusal
-    unpack-9 e = unpack-refused 8 (refused-later (unpackSize columns rows (length planes) (length memory)) _ size ∙ rw e)
+    unfolding unpackRefusal unpacked
+    unpack-9 e = written-refused _ (cellsOf columns rows planes) memory (sym (refused-later (unpackSize columns rows (length planes) (length memory)) _ size ∙ rw e)) (suc-ne-zero 8)
 
     pub unpack-9-pixel : pixelsOnce columns rows planes ≡ false → (9 ≡ unpackRefusal columns rows planes (length memory)) × (memory ≡ unpacked columns rows planes memory)
     unpack-9-pixel e = unpack-9 (rw e)
@@ -115,11 +102,7 @@ module _ (columns rows : ℕ) (planes memory : List ℕ) where
       unfolding unpackRefusal unpacked cellsOf
       unpack-0 e =
           let none : unpackRefusal columns rows planes (length memory) ≡ 0 = refused-later (unpackSize columns rows (length planes) (length memory)) _ size ∙ rw (once, e) in
-          let due = size-kept _ _ _ _ _ _ size .2 in (
-            sym none,
-            sym (written-whole (unpackRefusal columns rows planes (length memory)) (cellsOf columns rows planes) memory (cellsLength columns rows) none (upto-length _ (cellsLength columns rows))
-                ∙ rw (drop-of-length-le memory {i = cellsLength columns rows} (le-of-eq due)) (append-nil _)),
-          )
+          (sym none, sym (written-all _ (cellsOf columns rows planes) memory none (upto-length _ (cellsLength columns rows) ∙ sym (size-kept _ _ _ _ _ _ size .2))))
 
 -- ---- what a call that is not refused has passed
 

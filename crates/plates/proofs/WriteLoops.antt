@@ -1,45 +1,24 @@
 -- The loops that write the rows of the planes and of the cells, over plain numbers and lists: each turn lends the part of a row, which comes back written.
 -- Assumes nothing.
-use Prim.Native.Nat.{ℕ, zero, suc, _+_, _-_, _*_, _/_, _%_, _≤_, _<_}
+use Prim.Native.Nat.{ℕ, _+_, _-_, _*_, _/_, _%_, _≤_, _<_}
 use mathlib.Core.Path.{_≡_, sym, ap, ap₂, _∙_}
-use mathlib.Core.List.{List, _++_, append-nil, append-assoc}
+use mathlib.Core.List.{List}
 use mathlib.Core.Bool.{Bool}
-use native.Mathlib.Nat.{add-zero, add-suc, mul-le-mul}
+use native.Mathlib.Nat.{mul-le-mul}
 use native.Mathlib.Decide.{decLt}
 use native.Mathlib.Omega.{arith}
 use lib.Arith.{digits-div, digits-mod}
-use lib.ListN.{length, getD, take, drop, length-take, length-drop}
-use lib.Seq.{take-at, drop-at, drop-drop, getD-take, getD-drop}
+use lib.ListN.{length, getD, take, drop}
+use lib.Seq.{getD-take, getD-drop}
 use borrow.Author.Tests.{le-ltb}
 use borrow.Rule.Slice.PartMut.{putMid}
 use Rattle.arith.specs.Run.{upto}
 use Rattle.arith.specs.Sum.{indicator}
-use Rattle.arith.proofs.RunLaws.{Filling, filling-start, filling-length, filling-whole, upto-length, upto-same}
+use Rattle.arith.proofs.RunLaws.{Filling, filling-start, filling-length, filling-part, filling-whole, part-length, upto-same}
 use Rattle.arith.proofs.SumLaws.{sum-same}
 use Rattle.plates.specs.Masks.{mask}
 use Rattle.plates.specs.Planes.{rowBytes, planesLength, cellsLength, cellAt, inPlane, planeByte, planesByte, planesOf, colorantOf, cellsOf}
 use Rattle.plates.proofs.PlaceLaws.{row-ends, row-in-plane}
-
--- ---- a part of a run
-
--- a run of n + m elements is the run of the first n and that of the m after them
-upto-parts : (f : ℕ → ℕ) (n m : ℕ) → upto f (n + m) ≡ upto f n ++ upto (λ i. f (n + i)) m
-unfolding upto
-upto-parts f n zero = rw (add-zero, append-nil)
-upto-parts f n (suc m) = rw (add-suc, upto-parts f n m, append-assoc)
-
--- the next k places are lent and come back as the next k elements
-filling-part : {f : ℕ → ℕ} {l₀ l : List ℕ} {i : ℕ} → Filling f l₀ l i → (k : ℕ) (part : List ℕ) → i + k ≤ length l₀
-    → part ≡ upto (λ j. f (i + j)) k → Filling f l₀ (putMid i (i + k - i) l part) (i + k)
-filling-part {f} {l₀} {l} {i} r k part room e =
-    let size : i + k - i ≡ k = omega arith in
-    let front : take i l ≡ upto f i = rw (r .cells) (take-at (upto f i) (drop i l₀) i (upto-length f i)) in
-    let back : drop i l ≡ drop i l₀ = rw (r .cells) (drop-at (upto f i) (drop i l₀) i (upto-length f i)) in
-    record { within = room; cells = rw (size, front, back, drop-drop, e, upto-parts f i k, append-assoc) }
-
--- what is lent has as many places as the row
-part-length : (i k : ℕ) (l : List ℕ) → i + k ≤ length l → length (take (i + k - i) (drop i l)) ≡ k
-part-length i k l h = simp (length-take, length-drop) (omega arith)
 
 -- ---- planes
 

@@ -12,10 +12,13 @@ use Rattle.plates.specs.Planes.{planesLength, cellsLength, planesOf, cel
 unfoldable pub onSheet : ℕ → ℕ → Bool
 onSheet columns rows = leb columns 65536 && leb rows 65536
 
--- 5, then 6, "input length not the stated one", then 7, "output length not the stated one"
+-- 6, "input length not the stated one", then 7, "output length not the stated one"
+unfoldable pub lengthsRefusal : ℕ → ℕ → ℕ → ℕ → ℕ
+lengthsRefusal input inputStated output outputStated = unless (eqb input inputStated) 6 (unless (eqb output outputStated) 7 0)
+
 unfoldable pub sizeRefusal : ℕ → ℕ → ℕ → ℕ → ℕ → ℕ → ℕ
 sizeRefusal columns rows input inputStated output outputStated =
-    unless (onSheet columns rows) 5 (unless (eqb input inputStated) 6 (unless (eqb output outputStated) 7 0))
+    unless (onSheet columns rows) 5 (lengthsRefusal input inputStated output outputStated)
 
 -- 5 to 7 of the two calls: each takes what the other writes
 abbrev pub packSize : ℕ → ℕ → ℕ → ℕ → ℕ

@@ -9,7 +9,7 @@ ghost use mathlib.Core.Path.{_≡_};
 ghost use Prim.Native.Nat.{_≤_};
 ghost use Rattle.plates.specs.Masks.{mask};
 ghost use Rattle.plates.specs.Planes.{rowBytes};
-ghost use Rattle.plates.specs.Refusals.{onSheet};
+ghost use Rattle.plates.specs.Refusals.{onSheet, lengthsRefusal};
 
 const MASKS: [u8; 8] = [128, 64, 32, 16, 8, 4, 2, 1];
 
@@ -25,6 +25,19 @@ fn on_sheet(columns: u32, rows: u32) -> bool
     ensures { λ r. ⌜ r ≡ onSheet columns rows ⌝ }
 {
     columns <= 65536 && rows <= 65536
+}
+
+// 6 where the input's length is not the one stated, else 7 where the output's is not, else 0.
+fn lengths_refusal(input: usize, stated: usize, output: usize, due: usize) -> u32
+    ensures { λ r. ⌜ r ≡ lengthsRefusal input stated output due ⌝ }
+{
+    if input != stated {
+        return 6;
+    }
+    if output != due {
+        return 7;
+    }
+    0
 }
 
 // How many bytes a row of a plane has.

@@ -5,6 +5,7 @@ ghost use lib.ListN.{length, getD};
 ghost use Rattle.arith.specs.Run.{upto};
 ghost use Rattle.plates.specs.Planes.{rowBytes, planesLength, cellsLength, inPlane, planeByte, planesOf, colorantsOnly};
 ghost use Rattle.plates.specs.Refusals.{packRefusal, packed};
+use crate::lengths_refusal;
 use crate::mask_of;
 use crate::on_sheet;
 use crate::row_bytes;
@@ -21,12 +22,10 @@ pub fn pack(columns: u32, rows: u32, cells: &[u8], planes: &mut [u8]) -> u32
     let wide = columns as usize;
     let high = rows as usize;
     let stated = wide * high;
-    if cells.len() != stated {
-        return 6;
-    }
-    let stated_planes = 8 * high * row_bytes(wide);
-    if planes.len() != stated_planes {
-        return 7;
+    let due = 8 * high * row_bytes(wide);
+    let refused = lengths_refusal(cells.len(), stated, planes.len(), due);
+    if refused != 0 {
+        return refused;
     }
     if !colorants_only(cells) {
         return 9;

@@ -7,6 +7,7 @@ ghost use Rattle.arith.specs.Run.{upto};
 ghost use Rattle.arith.specs.Every.{every};
 ghost use Rattle.plates.specs.Planes.{rowBytes, planesLength, cellsLength, bitAt, planesWith, colorantOf, cellsOf, pixelsOnce, paddingClear};
 ghost use Rattle.plates.specs.Refusals.{unpackRefusal, unpacked};
+use crate::lengths_refusal;
 use crate::mask_of;
 use crate::on_sheet;
 use crate::row_bytes;
@@ -22,13 +23,11 @@ pub fn unpack(columns: u32, rows: u32, planes: &[u8], cells: &mut [u8]) -> u32
     }
     let wide = columns as usize;
     let high = rows as usize;
-    let stated_planes = 8 * high * row_bytes(wide);
-    if planes.len() != stated_planes {
-        return 6;
-    }
-    let stated = wide * high;
-    if cells.len() != stated {
-        return 7;
+    let stated = 8 * high * row_bytes(wide);
+    let due = wide * high;
+    let refused = lengths_refusal(planes.len(), stated, cells.len(), due);
+    if refused != 0 {
+        return refused;
     }
     if !pixels_once(wide, high, planes) {
         return 9;

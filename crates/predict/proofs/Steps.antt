@@ -2,10 +2,8 @@
 -- Assumes nothing.
 use Prim.Native.Nat.{ℕ, zero, suc, _+_, _≤_, _<_}
 use mathlib.Core.Path.{_≡_, refl, sym, ap, _∙_}
-use mathlib.Core.Bool.{Bool, true, false, not, true≢false, false≢true}
+use mathlib.Core.Bool.{Bool, not}
 use mathlib.Core.List.{List}
-use mathlib.Core.Logic.{_⊎_, inl, inr}
-use native.Mathlib.Nat.{eq-or-lt-of-le}
 use native.Mathlib.Numerals.{add-one}
 use native.Mathlib.Decide.{ℕ-discrete, decLt}
 use native.Mathlib.Omega.{arith}
@@ -13,16 +11,15 @@ use lib.IntN.{pos}
 use lib.ListN.{getD}
 use lib.Ieee.{Float, binary64, div, ofInt}
 use borrow.Author.Tests.{eq-eqb, ne-eqb, lt-ltb, le-ltb}
-use Rattle.arith.specs.Refusal.{answered}
-use Rattle.arith.proofs.FirstLaws.{first-within, first-passes, first-is}
-use Rattle.arith.proofs.RefusalLaws.{answered-whole}
-use Rattle.arith.proofs.RunLaws.{upto-at}
+use Rattle.arith.proofs.FirstLaws.{first-none}
 use Rattle.screen.specs.declared.Screen.{Screen}
 use Rattle.screen.specs.Screens.{refusalOf, Admitted}
 use Rattle.separation.specs.declared.Separation.{Separation}
 use Rattle.separation.specs.declared.Inks.{Inks}
 use Rattle.quantiser.specs.declared.answer.Counts.{Counts}
 use Rattle.quantiser.specs.Running.{count, countsOf}
+use Rattle.arith.proofs.RunLaws.{upto-at}
+use Rattle.quantiser.proofs.Published.{counts-answered}
 use Rattle.predict.specs.declared.Xyz.{Xyz}
 use Rattle.predict.specs.declared.Prediction.{Prediction}
 use Rattle.predict.specs.declared.Prediction.the-variants.{BadPrimary, BadScreen}
@@ -65,46 +62,15 @@ mean-same : (c d : ℕ → ℕ) (n : ℕ) (ps : List Xyz) → ((j : ℕ) → j <
 mean-same c d n ps e =
     rw (channel-same c d n (λ j. primary ps j .x) e, channel-same c d n (λ j. primary ps j .y) e, channel-same c d n (λ j. primary ps j .z) e)
 
--- the counts that `quantiser` answers for an admitted screen
-counts-listed : (s : Screen) (sep : Separation) (inks : Inks) → Admitted s → (j : ℕ) → j < 8 → getD (countsOf s sep inks .of) j 0 ≡ count s sep inks j
-unfolding countsOf
-counts-listed s sep inks ok j l =
-    upto-at (λ i. answered (refusalOf s) (count s sep inks i)) 8 j l ∙ answered-whole (refusalOf s) (count s sep inks j) ok
-
 -- ---- the first bad colorant
 
-module _ (ps : List Xyz) where
-  pub bad-at : (i : ℕ) → i < 8 → ((j : ℕ) → j < i → admitted (primary ps j) ≡ true) → admitted (primary ps i) ≡ false → firstBad ps ≡ i
-  unfolding firstBad
-  bad-at i l good bad = first-is 8 (λ j. not (admitted (primary ps j))) i l (ap not bad) (λ j m. ap not (good j m))
+-- whether the primary of a colorant has a bad value
+abbrev pub bad : List Xyz → ℕ → Bool
+bad ps j = not (admitted (primary ps j))
 
-  pub bad-none : AllAdmitted ps → firstBad ps ≡ 8
-  unfolding firstBad
-  bad-none good = go (eq-or-lt-of-le (first-within 8 (λ j. not (admitted (primary ps j)))))
-    where
-      go : (firstBad ps ≡ 8) ⊎ (firstBad ps < 8) → firstBad ps ≡ 8
-      go (inl e) = e
-      go (inr l) = absurd (false≢true (sym (ap not (good (firstBad ps) l)) ∙ first-passes 8 (λ j. not (admitted (primary ps j))) l))
-
--- one colorant more is admitted
-pub good-next : (ps : List Xyz) (i : ℕ) → ((j : ℕ) → j < i → admitted (primary ps j) ≡ true) → admitted (primary ps i) ≡ true
-    → (j : ℕ) → j < i + 1 → admitted (primary ps j) ≡ true
-good-next ps i good here j l = go (decLt j i)
-  where
-    go : Dec (j < i) → admitted (primary ps j) ≡ true
-    go (yes m) = good j m
-    go (no m) =
-        let e : j ≡ i = omega arith in
-        rw e here
-
--- a test that is denied
-pub denied : (test : Bool) → not test ≡ true → test ≡ false
-denied true e = absurd (false≢true e)
-denied false e = refl
-
-pub not-denied : (test : Bool) → not test ≡ false → test ≡ true
-not-denied true e = refl
-not-denied false e = absurd (true≢false e)
+pub bad-none : (ps : List Xyz) → AllAdmitted ps → firstBad ps ≡ 8
+unfolding firstBad
+bad-none ps good = first-none 8 (bad ps) (λ j l. ap not (good j l))
 
 -- ---- the answer
 
@@ -137,14 +103,12 @@ module _ (s : Screen) (sep : Separation) (inks : Inks) (ps : List Xyz) where
 
   -- from the counts that `quantiser` answers
   pub screen-refused : (counts : Counts) → counts ≡ countsOf s sep inks → (counts .refusal ≡ 0 → ⊥) → BadScreen (counts .refusal) ≡ predicted s sep inks ps
-  unfolding countsOf
   screen-refused counts e h =
-      let r : counts .refusal ≡ refusalOf s = ap (λ (k : Counts). k .refusal) e in
+      let r : counts .refusal ≡ refusalOf s = ap (λ (k : Counts). k .refusal) e ∙ counts-answered s sep inks .0 in
       ap BadScreen r ∙ sym (predicted-screen (λ z. h (r ∙ z)))
 
   counts-admitted : (counts : Counts) → counts ≡ countsOf s sep inks → counts .refusal ≡ 0 → Admitted s
-  unfolding countsOf
-  counts-admitted counts e h = sym (ap (λ (k : Counts). k .refusal) e) ∙ h
+  counts-admitted counts e h = sym (counts-answered s sep inks .0) ∙ sym (ap (λ (k : Counts). k .refusal) e) ∙ h
 
   pub primary-refused : (counts : Counts) → counts ≡ countsOf s sep inks → counts .refusal ≡ 0
       → (bad : ℕ) → bad ≡ firstBad ps → bad < 8 → BadPrimary bad ≡ predicted s sep inks ps
@@ -154,5 +118,5 @@ module _ (s : Screen) (sep : Separation) (inks : Inks) (ps : List Xyz) where
       → (bad : ℕ) → bad ≡ firstBad ps → 8 ≤ bad → meanOf (λ j. getD (counts .of) j 0) (s .n) ps ≡ predicted s sep inks ps
   colour-answered counts e h bad f l =
       let ok = counts-admitted counts e h in
-      mean-same (λ j. getD (counts .of) j 0) (count s sep inks) (s .n) ps (λ j m. rw e (counts-listed s sep inks ok j m))
+      mean-same (λ j. getD (counts .of) j 0) (count s sep inks) (s .n) ps (λ j m. rw (e, counts-answered s sep inks .1 ok) (upto-at (count s sep inks) 8 j m))
       ∙ sym (predicted-mean ok (omega arith))

@@ -1,7 +1,7 @@
 -- The laws of specs/Laws.antt, proved.
 -- Assumes nothing.
 use Rattle.separation.proofs.Published.{weights-add-up}
-use Rattle.quantiser.specs.Laws.{RunningRises, RunningEnds, CountsAddUp, CountShare, ScaleLimit, SubscreensAddUp, SubscreenPlaces, PhasePlace, ColorantBelow, PhasesInSubscreen, SubscreenShare, PhasesInAll, ThresholdLaw, ThresholdWithin, ThresholdOnce, ThresholdListed, RankBelow, ColorantRank}
+use Rattle.quantiser.specs.Laws.{RunningRises, RunningEnds, CountsAddUp, CountShare, CountsAnswered, ScaleLimit, SubscreensAddUp, SubscreenPlaces, PhasePlace, ColorantBelow, PhasesInSubscreen, SubscreenShare, PhasesInAll, ThresholdLaw, ThresholdWithin, ThresholdOnce, ThresholdListed, RankBelow, ColorantRank}
 use Rattle.quantiser.proofs.LevelLaws as LevelLaws
 use Rattle.quantiser.proofs.RunningLaws as RunningLaws
 use Rattle.quantiser.proofs.SubscreenLaws as SubscreenLaws
@@ -20,6 +20,9 @@ counts-add-up s ok sep inks v = RunningLaws.counts-add-up s sep inks (weights-ad
 
 pub count-share : CountShare
 count-share s ok sep inks v j = (RunningLaws.count-low s sep inks j, RunningLaws.count-high s sep inks j)
+
+pub counts-answered : CountsAnswered
+counts-answered = RunningLaws.counts-answered
 
 pub scale-limit : ScaleLimit
 scale-limit = LevelLaws.scale-limit

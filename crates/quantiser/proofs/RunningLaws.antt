@@ -7,14 +7,19 @@ use native.Mathlib.Nat.{mul-div-mul-left, add-mul-div-left, div-eq-of-lt}
 use native.Mathlib.Omega.{arith}
 use Rattle.arith.specs.Sum.{sumBelow}
 use Rattle.arith.specs.Rounding.{roundedUp, before}
+use Rattle.arith.specs.Refusal.{answered}
+use Rattle.arith.proofs.RefusalLaws.{answered-whole}
+use Rattle.arith.proofs.RunLaws.{upto-same}
 use Rattle.arith.proofs.RoundingLaws.{floor-plus, floor-plus-up, floor-mono, rounded-scaled}
 use Rattle.arith.proofs.StepLaws.{steps-add-up}
 use Rattle.screen.specs.declared.Screen.{Screen}
+use Rattle.screen.specs.Screens.{refusalOf}
 use Rattle.separation.specs.declared.Separation.{Separation}
 use Rattle.separation.specs.declared.Inks.{Inks}
 use Rattle.separation.specs.Weights.{weight, scaleOf}
 use Rattle.separation.proofs.Published.{scale-odd}
-use Rattle.quantiser.specs.Running.{weightUpTo, level, running, count}
+use Rattle.quantiser.specs.Running.{weightUpTo, level, running, count, countsOf}
+use Rattle.quantiser.specs.Laws.{CountsAnswered}
 
 module _ (s : Screen) (sep : Separation) (inks : Inks) where
   D-pos : 0 < scaleOf sep
@@ -74,3 +79,11 @@ module _ (s : Screen) (sep : Separation) (inks : Inks) where
       let share : ℕ = s .n * weight sep inks j in
       let step = floor-plus-up (lower j) (2 * share) (2 * scaleOf sep) unit-pos in
       omega (arith, step, ap (λ (e : ℕ). e / (2 * scaleOf sep)) (level-step j), lower-running j, rounded-scaled 2 share (scaleOf sep) (omega arith) D-pos)
+
+-- what `counts` answers
+pub counts-answered : CountsAnswered
+unfolding countsOf
+counts-answered s sep inks = (
+  refl,
+  λ ok. upto-same (λ i. answered (refusalOf s) (count s sep inks i)) (count s sep inks) 8 (λ j l. answered-whole (refusalOf s) (count s sep inks j) ok),
+)

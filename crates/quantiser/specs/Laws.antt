@@ -8,13 +8,14 @@ use lib.Dec.{eqb, leb}
 use Rattle.arith.specs.Sum.{sumBelow, indicator}
 use Rattle.arith.specs.First.{firstBelow}
 use Rattle.arith.specs.Rounding.{roundedUp, before}
+use Rattle.arith.specs.Run.{upto}
 use Rattle.screen.specs.declared.Screen.{Screen}
-use Rattle.screen.specs.Screens.{Admitted}
+use Rattle.screen.specs.Screens.{refusalOf, Admitted}
 use Rattle.separation.specs.declared.Separation.{Separation}
 use Rattle.separation.specs.declared.Inks.{Inks}
 use Rattle.separation.specs.Weights.{weight, scaleOf}
 use Rattle.separation.specs.Laws.{InkValues}
-use Rattle.quantiser.specs.Running.{running, count}
+use Rattle.quantiser.specs.Running.{running, count, countsOf}
 use Rattle.quantiser.specs.Subscreens.{subscreenSize, subscreenStart, subscreenOf, distanceOf, fillUpTo, colorantAt, colorantOf, phasesIn, phasesOf}
 use Rattle.quantiser.specs.Leaves.{thresholdAt, thresholdOf, thresholdsIn, levelsOf, rank}
 
@@ -40,6 +41,12 @@ CountShare =
     Always
     (λ s sep inks. (j : ℕ)
     → (s .n * weight sep inks j / scaleOf sep ≤ count s sep inks j) × (count s sep inks j ≤ roundedUp (s .n * weight sep inks j) (scaleOf sep)))
+
+-- what `counts` answers: the screen's refusal, and for an admitted screen the counts
+abbrev pub CountsAnswered : Type 0
+CountsAnswered =
+    (s : Screen) (sep : Separation) (inks : Inks)
+    → (countsOf s sep inks .refusal ≡ refusalOf s) × (Admitted s → countsOf s sep inks .of ≡ upto (count s sep inks) 8)
 
 -- D is at most 255 × 255 × 255, so that a renderer's products of it fit
 abbrev pub ScaleLimit : Type 0

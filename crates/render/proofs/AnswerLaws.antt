@@ -2,17 +2,15 @@
 -- Assumes nothing.
 use Prim.Native.Nat.{ℕ, _+_, _*_, _/_, _%_, _≤_, _<_}
 use mathlib.Core.Path.{_≡_, refl, sym, ap, ap₂, _∙_}
-use mathlib.Core.Bool.{Bool, true, false, cond}
-use mathlib.Core.List.{List, [], _∷_, _++_, append-nil}
+use mathlib.Core.List.{List, [], _∷_}
 use native.Mathlib.Nat.{pos-of-ne-zero, add-zero, zero-mul}
+use native.Mathlib.Decide.{ℕ-discrete}
 use native.Mathlib.Omega.{arith}
-use lib.Dec.{eqb}
-use lib.ListN.{length, getD, drop}
-use lib.Seq.{drop-length}
+use lib.ListN.{length, getD}
 use Rattle.arith.specs.Run.{upto}
 use Rattle.arith.specs.Tally.{tally}
 use Rattle.arith.specs.Refusal.{answered, written}
-use Rattle.arith.proofs.RefusalLaws.{answered-none, answered-whole, written-none, written-whole}
+use Rattle.arith.proofs.RefusalLaws.{answered-none, answered-whole, written-none, written-all, written-refused}
 use Rattle.arith.proofs.RunLaws.{upto-length, upto-same}
 use Rattle.screen.specs.declared.Screen.{Screen}
 use Rattle.screen.specs.Screens.{Admitted}
@@ -29,7 +27,7 @@ use Rattle.render.specs.declared.Rendering.{Rendering}
 use Rattle.render.specs.declared.Cell.{Cell}
 use Rattle.render.specs.Windows.{area, inksAt, cellOf, windowCell, windowCells, talliesOf}
 use Rattle.render.specs.Answers.{windowRefusal, answerOf, rendering, rendered, loneCell}
-use Rattle.render.specs.Rows.{cellBy, rowsBy, WindowInput}
+use Rattle.render.specs.Rows.{cellBy, cellIn, rowsBy, WindowInput}
 use Rattle.render.proofs.RefusalLaws.{window-kept}
 
 -- ---- answers
@@ -49,9 +47,10 @@ module _ (r : ℕ) (cells out : List ℕ) where
 
   -- a refused call
   pub answer-none : {v : Rendering} (r′ : ℕ) → r′ ≡ r → (r′ ≡ 0 → ⊥) → v ≡ record { refusal = r′; tallies = upto (λ j. 0) 8 } → (v ≡ answerOf r cells) × (out ≡ written r cells out)
-  answer-none r′ e h q =
-      let h′ : r ≡ 0 → ⊥ = λ z. h (e ∙ z) in
-      (q ∙ ap nothing e ∙ sym (tallies-are (λ j. 0) (λ j. answered-none r (tally j cells) h′)), sym (written-none r cells out h′))
+  answer-none r′ e h q = (
+    q ∙ ap nothing e ∙ sym (tallies-are (λ j. 0) (λ j. answered-none r (tally j cells) (λ z. h (e ∙ z)))),
+    written-refused r cells out e h .1,
+  )
 
   -- a rendered window
   pub answer-whole : {t out₁ : List ℕ} → r ≡ 0 → length cells ≡ length out → t ≡ talliesOf cells → out₁ ≡ cells
@@ -59,7 +58,7 @@ module _ (r : ℕ) (cells out : List ℕ) where
   unfolding talliesOf
   answer-whole e l q p = (
     rw (q, ← e) (sym (tallies-are (λ j. tally j cells) (λ j. answered-whole r (tally j cells) e))),
-    p ∙ sym (written-whole r cells out (length out) e l ∙ rw drop-length (append-nil cells)),
+    p ∙ sym (written-all r cells out e l),
   )
 
   -- a window without cells
@@ -80,7 +79,7 @@ module _ (s : Screen) (sep : Separation) (w : Window) (input : List ℕ) where
 
   module _ (ok : Admitted s) (bytes : (k : ℕ) → getD input k 0 ≤ 255) (table : List ℕ) (listed : (p : ℕ) → p < s .n → getD table p 0 ≡ thresholdOf s p)
       (f : ℕ → ℕ → ℕ) (reads : (u v : ℕ) → f u v ≡ phase s (w .x + u) (w .y + v)) where
-    cell-is : (i : ℕ) → cellBy (s .n) sep table (f (i % w .columns) (i / w .columns)) (inksAt input i) ≡ windowCell s sep w input i
+    cell-is : (i : ℕ) → cellIn (s .n) sep table f input (w .columns) i ≡ windowCell s sep w input i
     unfolding cellBy windowCell cellOf
     cell-is i =
         let p : ℕ = phase s (w .x + i % w .columns) (w .y + i / w .columns) in
@@ -132,13 +131,15 @@ module _ (s : Screen) (sep : Separation) (x y : ℕ) (inks : Inks) where
   unfolding windowRefusal placeRefusal
   lone-refusal = refl
 
-  lone-byte : (b : Bool) → getD (cond b (windowCells s sep lone triple ++ drop (length (windowCells s sep lone triple)) (0 ∷ [])) (0 ∷ [])) 0 0 ≡ cond b (cellOf s sep x y inks) 0
+  lone-byte : (r : ℕ) → Dec (r ≡ 0) → getD (written r (windowCells s sep lone triple) (0 ∷ [])) 0 0 ≡ answered r (cellOf s sep x y inks)
   unfolding windowCells windowCell upto
-  lone-byte true = ap₂ (λ (i j : ℕ). cellOf s sep i j inks) (add-zero x) (add-zero y)
-  lone-byte false = refl
+  lone-byte r (yes z) =
+      rw (written-all r (windowCells s sep lone triple) (0 ∷ []) z refl, answered-whole r (cellOf s sep x y inks) z)
+      (ap₂ (λ (i j : ℕ). cellOf s sep i j inks) (add-zero x) (add-zero y))
+  lone-byte r (no h) = rw (written-none r (windowCells s sep lone triple) (0 ∷ []) h, answered-none r (cellOf s sep x y inks) h)
 
   -- the refusal and the byte of that window
   pub lone-cell : {out : List ℕ} {r : Rendering} → r ≡ rendering s sep lone triple (0 ∷ []) → out ≡ rendered s sep lone triple (0 ∷ [])
       → _≡_ {A = Cell} (record { refusal = r .refusal; colorant = getD out 0 0 }) (loneCell s sep x y inks)
   unfolding rendering rendered answerOf loneCell
-  lone-cell e q = rw (e, q, lone-byte (eqb (windowRefusal s lone 3 1) 0), lone-refusal) refl
+  lone-cell e q = rw (e, q, lone-byte (windowRefusal s lone 3 1) (ℕ-discrete _ 0), lone-refusal) refl

@@ -6,16 +6,21 @@ use mathlib.Core.Path.{_≡_, sym, ap, _∙_}
 use mathlib.Core.List.{List}
 use native.Mathlib.Nat.{le-trans, le-mul-of-pos-right, mul-comm, mul-le-mul, mul-le-mul-right, mod-lt, div-le-self, div-lt-iff-lt-mul, div-add-mod'}
 use native.Mathlib.Omega.{arith}
-use lib.ListN.{length, getD, take, drop, length-take, length-drop}
+use lib.ListN.{length, getD, take, drop}
 use lib.Seq.{getD-take, getD-drop}
+use Rattle.arith.proofs.RunLaws.{part-length}
 use Rattle.arith.proofs.RemainderLaws.{remainder-apart, remainder-on}
 use Rattle.screen.specs.declared.Screen.{Screen}
 use Rattle.screen.specs.declared.bricks.Brick.{Brick}
 use Rattle.screen.specs.Screens.{Admitted}
 use Rattle.screen.specs.Phase.{phase}
-use Rattle.screen.specs.Brick.{columns, rows, shift, TrueBrick, placeInBrick}
+use Rattle.screen.specs.Brick.{columns, rows, shift, TrueBrick, brickPlace}
 use Rattle.screen.proofs.Published.{phase-below, brick-size, shift-words, read-from-brick}
-use Rattle.render.specs.Rows.{BrickInput, brickPlace}
+use Rattle.render.specs.Rows.{BrickInput}
+
+-- the part of a brick that is the line of row y
+abbrev lineOf : ℕ → ℕ → List ℕ → ℕ → List ℕ
+lineOf columns rows brick y = take (y % rows * columns + columns - y % rows * columns) (drop (y % rows * columns) brick)
 
 module _ {n columns rows shift : ℕ} {brick : List ℕ} (b : BrickInput n columns rows shift brick) (few : n ≤ 4096) where
   columns-few : columns ≤ n
@@ -27,17 +32,17 @@ module _ {n columns rows shift : ℕ} {brick : List ℕ} (b : BrickInput n colum
   pub behind-fits : (y : ℕ) → y < 65536 → shift * (y / rows) ≤ 4096 * 65536
   behind-fits y l = mul-le-mul {n₁ = shift} {m₁ = y / rows} {n₂ = 4096} {m₂ = 65536} (omega (arith, b .shifted, columns-limit)) (omega (arith, div-le-self y rows))
 
-  -- the part of the brick that is a row's line
+  -- it lies within the brick
   pub line-fits : (y : ℕ) → y % rows * columns + columns ≤ n
   line-fits y = omega (arith, mul-le-mul-right columns (mod-lt y (b .high)), b .size)
 
-  pub line-length : (y : ℕ) → length (take (y % rows * columns + columns - y % rows * columns) (drop (y % rows * columns) brick)) ≡ columns
-  line-length y = simp (length-take, length-drop) (omega (arith, line-fits y, b .long))
+  pub line-length : (y : ℕ) → length (lineOf columns rows brick y) ≡ columns
+  line-length y = part-length (y % rows * columns) columns brick (omega (arith, line-fits y, b .long))
 
-  line-at : (y i : ℕ) → i < columns → getD (take (y % rows * columns + columns - y % rows * columns) (drop (y % rows * columns) brick)) i 0 ≡ getD brick (y % rows * columns + i) 0
+  line-at : (y i : ℕ) → i < columns → getD (lineOf columns rows brick y) i 0 ≡ getD brick (y % rows * columns + i) 0
   line-at y i l = getD-take (y % rows * columns + columns - y % rows * columns) (drop (y % rows * columns) brick) i 0 (omega arith) ∙ getD-drop (y % rows * columns) brick i 0
 
-  pub line-low : (y i : ℕ) → i < columns → getD (take (y % rows * columns + columns - y % rows * columns) (drop (y % rows * columns) brick)) i 0 < n
+  pub line-low : (y i : ℕ) → i < columns → getD (lineOf columns rows brick y) i 0 < n
   line-low y i l = rw (line-at y i l) (b .low (y % rows * columns + i) (omega (arith, line-fits y)))
 
   -- the column that a row begins in
@@ -45,7 +50,7 @@ module _ {n columns rows shift : ℕ} {brick : List ℕ} (b : BrickInput n colum
   first-below x y = mod-lt _ (b .wide)
 
   pub line-reads : (x y i : ℕ)
-      → getD (take (y % rows * columns + columns - y % rows * columns) (drop (y % rows * columns) brick)) (((x % columns + columns - shift * (y / rows) % columns) % columns + i) % columns) 0
+      → getD (lineOf columns rows brick y) (((x % columns + columns - shift * (y / rows) % columns) % columns + i) % columns) 0
       ≡ getD brick (brickPlace columns rows shift (x + i) y) 0
   unfolding brickPlace
   line-reads x y i =
@@ -79,5 +84,4 @@ module _ (s : Screen) (ok : Admitted s) (brick : List ℕ) (holds : TrueBrick s 
 
   -- and has the phases of the sheet
   pub brick-reads : (x y : ℕ) → getD brick (brickPlace (size .columns) (size .rows) (size .shift) x y) 0 ≡ phase s x y
-  unfolding brickPlace placeInBrick
   brick-reads x y = rw e (read-from-brick s ok brick holds x y .0)

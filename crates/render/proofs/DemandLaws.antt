@@ -4,18 +4,18 @@
 use Prim.Native.Nat.{ℕ, _+_, _*_, _/_, _%_, _≤_, _<_}
 use mathlib.Core.Path.{_≡_, sym, ap, ap₂, _∙_}
 use mathlib.Core.Bool.{_&&_}
-use mathlib.Core.List.{List, append-nil}
+use mathlib.Core.List.{List}
 use native.Mathlib.Nat.{add-assoc, mul-comm}
 use native.Mathlib.Decide.{ℕ-discrete}
 use native.Mathlib.Omega.{arith}
 use lib.Arith.{digits-lt, digits-div, digits-mod}
 use lib.Dec.{eqb}
-use lib.ListN.{length, getD, drop-of-length-le}
+use lib.ListN.{length, getD}
 use Rattle.arith.specs.Sum.{sumBelow, indicator}
 use Rattle.arith.specs.Tally.{tally}
 use Rattle.arith.specs.Refusal.{answered, written}
-use Rattle.arith.proofs.RefusalLaws.{answered-whole, written-whole}
-use Rattle.arith.proofs.RunLaws.{upto-length, upto-at}
+use Rattle.arith.proofs.RefusalLaws.{answered-whole, written-all}
+use Rattle.arith.proofs.RunLaws.{upto-at}
 use Rattle.arith.proofs.SumLaws.{sum-same, sum-places, sum-window, sum-along}
 use Rattle.arith.proofs.TallyLaws.{tally-upto}
 use Rattle.screen.specs.declared.Screen.{Screen}
@@ -35,6 +35,7 @@ use Rattle.render.specs.Windows.{area, cellOf, windowCell, windowCells}
 use Rattle.render.specs.Answers.{windowRefusal, brickRefusal, answerOf, rendering, rendered, brickRendering, brickRendered}
 use Rattle.render.specs.Demand.{Brickwork, Even, Demand3, Agreement, bytesInSubscreen}
 use Rattle.render.proofs.RefusalLaws.{window-whole, window-kept, true-due, brick-window, brick-whole}
+use Rattle.render.proofs.AnswerLaws.{cells-length}
 
 -- ---- sums over cells
 
@@ -110,10 +111,8 @@ module _ (s : Screen) (sep : Separation) (w : Window) (input out : List ℕ) (in
 
   -- the output is the cells
   all-written : rendered s sep w input out ≡ windowCells s sep w input
-  unfolding rendered windowCells
-  all-written =
-      written-whole (windowRefusal s w (length input) (length out)) (windowCells s sep w input) out (area w) not-refused (upto-length _ (area w))
-      ∙ rw (drop-of-length-le out {i = area w} (omega (arith, b .outputs-stated))) (append-nil _)
+  unfolding rendered
+  all-written = written-all _ _ out not-refused (cells-length s sep w input ∙ sym (b .outputs-stated))
 
   -- and so both keep the demand
   even : Even s sep w inks u v (rendering s sep w input out) (rendered s sep w input out)

@@ -26,8 +26,8 @@ use Rattle.render.specs.Answers.{windowRefusal, dueIn, brickRefusal}
 -- ---- 1 to 7: the screen, the window's place, the input and the output
 
 -- a window on the sheet has at most as many cells as the sheet
-pub area-limit : (w : Window) → w .x + w .columns ≤ 65536 → w .y + w .rows ≤ 65536 → area w ≤ 4294967296
-area-limit w right down = mul-le-mul {n₁ = w .columns} {m₁ = w .rows} {n₂ = 65536} {m₂ = 65536} (omega arith) (omega arith)
+pub area-limit : (x y columns rows : ℕ) → x + columns ≤ 65536 → y + rows ≤ 65536 → columns * rows ≤ 65536 * 65536
+area-limit x y columns rows right down = mul-le-mul {n₁ = columns} {m₁ = rows} {n₂ = 65536} {m₂ = 65536} (omega arith) (omega arith)
 
 module _ (s : Screen) (w : Window) (inputs outputs : ℕ) where
   pub window-screen : (refusalOf s ≡ 0 → ⊥) → refusalOf s ≡ windowRefusal s w inputs outputs
@@ -127,10 +127,3 @@ module _ (s : Screen) (w : Window) (inputs outputs : ℕ) (brick : List ℕ) whe
   pub brick-whole : windowRefusal s w inputs outputs ≡ 0 → dueIn s brick ≡ true → 0 ≡ brickRefusal s w inputs outputs brick
   unfolding brickRefusal
   brick-whole e h = sym (refused-later (windowRefusal s w inputs outputs) _ e ∙ rw h)
-
-  -- what a rendering from a brick that is not refused keeps
-  pub brick-kept : brickRefusal s w inputs outputs brick ≡ 0 → (windowRefusal s w inputs outputs ≡ 0) × (dueIn s brick ≡ true)
-  unfolding brickRefusal
-  brick-kept e =
-      let window = or-none (windowRefusal s w inputs outputs) _ e in
-      (window .0, unless-none (dueIn s brick) 7 0 (window .1) .0)

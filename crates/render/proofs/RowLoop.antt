@@ -9,7 +9,6 @@ use native.Mathlib.Decide.{decLt}
 use native.Mathlib.Omega.{arith}
 use lib.ListN.{length, getD, set, List·getD-eq-default}
 use Rattle.arith.specs.Run.{upto}
-use Rattle.arith.specs.Tally.{tally}
 use Rattle.arith.proofs.RunLaws.{Filling, filling-start, filling-length, filling-store, filling-whole, upto-length, upto-at, upto-same}
 use Rattle.arith.proofs.TallyLaws.{tally-most, tallies-bump, tallies-none}
 use Rattle.separation.specs.declared.Separation.{Separation}
@@ -19,7 +18,15 @@ use Rattle.render.specs.declared.cells.Paint.{Paint}
 use Rattle.render.specs.Windows.{inksAt}
 use Rattle.render.specs.Rows.{cellBy, rowBy, talliedOn, paintOf, Own, Written}
 
-pub cell-below : (n : ℕ) (sep : Separation) (table : List ℕ) (f : ℕ → ℕ) (input : List ℕ) (i : ℕ) → cellBy n sep table (f i) (inksAt input i) < 8
+-- a bound on a table's number at a place holds wherever one reads: beyond its end stands 0
+pub upto-most : (h : ℕ → ℕ) (n k most : ℕ) → h k ≤ most → getD (upto h n) k 0 ≤ most
+upto-most h n k most small = go (decLt k n)
+  where
+    go : Dec (k < n) → getD (upto h n) k 0 ≤ most
+    go (yes l) = rw (upto-at h n k l) small
+    go (no l) = rw (List·getD-eq-default (upto h n) 0 {n = k} (omega (arith, upto-length h n))) (omega arith)
+
+cell-below : (n : ℕ) (sep : Separation) (table : List ℕ) (f : ℕ → ℕ) (input : List ℕ) (i : ℕ) → cellBy n sep table (f i) (inksAt input i) < 8
 unfolding cellBy
 cell-below n sep table f input i = rank-below _ _
 
@@ -76,20 +83,12 @@ module _ {n : ℕ} {sep : Separation} {table : List ℕ} {f : ℕ → ℕ} {inpu
   pub row-length : length out ≡ length out₀
   row-length = filling-length (r .cells)
 
-  pub row-eight : length tallies ≡ 8
-  unfolding talliedOn
-  row-eight = ap length (r .counts) ∙ upto-length _ 8
-
   -- a tally has grown by at most one for each cell
   pub row-count : (k : ℕ) → getD tallies k 0 ≤ getD tallies₀ k 0 + i
   unfolding talliedOn rowBy
-  row-count k = go (decLt k 8)
-    where
-      go : Dec (k < 8) → getD tallies k 0 ≤ getD tallies₀ k 0 + i
-      go (yes l) =
-          rw (r .counts, upto-at (λ j. getD tallies₀ j 0 + tally j (rowBy n sep table f input i)) 8 k l)
-          (omega (arith, tally-most k (rowBy n sep table f input i), upto-length (λ j. cellBy n sep table (f j) (inksAt input j)) i))
-      go (no l) = rw (List·getD-eq-default tallies 0 {n = k} (omega (arith, row-eight))) (omega arith)
+  row-count k =
+      rw (r .counts)
+      (upto-most _ 8 k _ (omega (arith, tally-most k (rowBy n sep table f input i), upto-length (λ j. cellBy n sep table (f j) (inksAt input j)) i)))
 
   pub row-step : (v : ℕ) → i < length out₀ → v ≡ cellBy n sep table (f i) (inksAt input i)
       → RowAt n sep table f input out₀ tallies₀ (set out i v) (set tallies v (getD tallies v 0 + 1)) (i + 1)

@@ -5,7 +5,6 @@ use Prim.Native.Nat.{ℕ, _+_, _*_, _/_, _%_, _≤_, _<_}
 use mathlib.Core.Path.{_≡_}
 use mathlib.Core.List.{List}
 use lib.ListN.{length, getD}
-use Rattle.arith.specs.Remainder.{remainderOf}
 use Rattle.arith.specs.Run.{upto}
 use Rattle.arith.specs.Tally.{tally}
 use Rattle.separation.specs.declared.Separation.{Separation}
@@ -23,10 +22,12 @@ cellBy n sep table p inks = rank (levelsOf n sep inks) (2 * scaleOf sep * getD t
 unfoldable pub rowBy : ℕ → Separation → List ℕ → (ℕ → ℕ) → List ℕ → ℕ → List ℕ
 rowBy n sep table f input columns = upto (λ i. cellBy n sep table (f i) (inksAt input i)) columns
 
--- rows of cells, that in column x and row y at the phase number f x y
+-- rows of cells, that in column x and row y at the phase number f x y: cell i, and all of them
+abbrev pub cellIn : ℕ → Separation → List ℕ → (ℕ → ℕ → ℕ) → List ℕ → ℕ → ℕ → ℕ
+cellIn n sep table f input columns i = cellBy n sep table (f (i % columns) (i / columns)) (inksAt input i)
+
 unfoldable pub rowsBy : ℕ → Separation → List ℕ → (ℕ → ℕ → ℕ) → List ℕ → ℕ → ℕ → List ℕ
-rowsBy n sep table f input columns rows =
-    upto (λ i. cellBy n sep table (f (i % columns) (i / columns)) (inksAt input i)) (columns * rows)
+rowsBy n sep table f input columns rows = upto (cellIn n sep table f input columns) (columns * rows)
 
 -- eight tallies with those of some more cells added
 unfoldable pub talliedOn : List ℕ → List ℕ → List ℕ
@@ -62,10 +63,6 @@ pub record RowInput (n : ℕ) (table : List ℕ) (inputs outputs : ℕ) (tallies
 pub record Written (n : ℕ) (sep : Separation) (table : List ℕ) (f : ℕ → ℕ) (input tallies : List ℕ) (outputs : ℕ) (counted out : List ℕ) : Type 0 where
   pub cells : out ≡ rowBy n sep table f input outputs
   pub counts : counted ≡ talliedOn tallies (rowBy n sep table f input outputs)
-
--- the place of (x, y) in a brick of so many columns and rows and such a shift
-unfoldable pub brickPlace : ℕ → ℕ → ℕ → ℕ → ℕ → ℕ
-brickPlace columns rows shift x y = y % rows * columns + remainderOf x (shift * (y / rows)) columns
 
 -- what the functions over a window's rows ask, and what they promise: as for a row, and the window on the sheet with a cell a row at least
 pub record WindowInput (n : ℕ) (table : List ℕ) (x y columns rows inputs outputs : ℕ) : Type 0 where

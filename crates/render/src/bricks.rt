@@ -1,7 +1,8 @@
 // A row of cells whose phases are read from a brick.
 ghost use Prim.Native.Nat.{ℕ, _+_, _%_, _≤_, _<_};
 ghost use lib.ListN.{length, getD};
-ghost use Rattle.render.specs.Rows.{RowInput, BrickInput, Written, brickPlace};
+ghost use Rattle.screen.specs.Brick.{brickPlace};
+ghost use Rattle.render.specs.Rows.{RowInput, BrickInput, Written};
 use crate::cells::carry;
 use crate::cells::painted;
 use crate::cells::unpainted;

@@ -11,7 +11,7 @@ use Rattle.arith.proofs.RunLaws.{upto-length, upto-at, upto-over}
 use Rattle.screen.specs.declared.Screen.{Screen}
 use Rattle.screen.specs.Screens.{Admitted, Limits}
 use Rattle.screen.specs.Phase.{phase}
-use Rattle.screen.specs.Brick.{rows, columns, shift, brickPhases, filled, placeInBrick}
+use Rattle.screen.specs.Brick.{rows, columns, shift, brickPhases, brickPlace, filled}
 use Rattle.screen.specs.Laws.{AdmittedWords, PhaseBelow, PhaseWords, PhaseOnly, StepsRight, StepRight, StepDown, PlaceOnSheet, BrickSize, PeriodRight, ShiftWords, ShiftOnly, ShiftLaw, BrickAnswered, FilledIsTrue, ReadFromBrick, BufferRefused, times, EachPhaseOnce, EachPhaseTimes}
 use Rattle.screen.proofs.Refusals as Refusals
 use Rattle.screen.proofs.PhaseLaws as PhaseLaws
@@ -87,7 +87,7 @@ filled-is-true s buffer room e =
     )
 
 pub read-from-brick : ReadFromBrick
-unfolding placeInBrick
+unfolding brickPlace
 read-from-brick s e buffer true-brick x y =
     let pos = limits e .cells-above in
     let u = remainder-below x (shift s * (y / rows s)) (columns s) (BrickLaws.columns-pos (s .a) (s .n) pos) in

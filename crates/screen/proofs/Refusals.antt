@@ -2,11 +2,11 @@
 -- Assumes nothing.
 use Prim.Native.Nat.{ℕ, _+_, _≤_, _<_}
 use mathlib.Core.Path.{_≡_, sym, _∙_}
-use mathlib.Core.Bool.{Bool, true, false, not}
+use mathlib.Core.Bool.{true, false}
 use mathlib.Core.List.{List, _++_}
 use native.Mathlib.Omega.{arith}
 use lib.ListN.{length, drop}
-use borrow.Author.Tests.{not-true, not-false, leb-true, ltb-true, eqb-true, le-leb, lt-leb, lt-ltb, eq-eqb}
+use borrow.Author.Tests.{leb-true, ltb-true, eqb-true, le-leb, lt-leb, lt-ltb, eq-eqb}
 use Rattle.arith.proofs.RefusalLaws.{both-pass, unless-none, refused-first, refused-later, answered-none, answered-whole, written-none, written-whole, or-none}
 use Rattle.arith.proofs.RunLaws.{upto-length}
 use Rattle.screen.specs.declared.Screen.{Screen}
@@ -16,14 +16,6 @@ use Rattle.screen.specs.Screens.{slopeAdmitted, cellsAdmitted, subscreen
 use Rattle.screen.specs.Phase.{onSheet, phase, placeRefusal, placeOf}
 use Rattle.screen.specs.Brick.{columns, rows, shift, brickOf, brickPhases, bufferRefusal, filled}
 use Rattle.screen.specs.Laws.{AdmittedWords}
-
--- ---- a test's answer, from the function that makes it and the branch that was taken on its negation
-
-pub failed : {answer test : Bool} → answer ≡ test → not answer ≡ true → test ≡ false
-failed e n = sym e ∙ not-true _ n
-
-pub passed : {answer test : Bool} → answer ≡ test → not answer ≡ false → test ≡ true
-passed e n = sym e ∙ not-false _ n
 
 -- ---- 1 to 4: the screen
 

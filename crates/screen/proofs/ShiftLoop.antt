@@ -24,7 +24,7 @@ module _ {a b n reached t : ℕ} (s : ShiftAt a b n reached t) where
   pub shift-ahead : (rows : ℕ) → 0 < n → rows ≡ rowsOf a n → (reached ≡ b * rows % n → ⊥) → t < shiftOf a b n
   unfolding shiftOf
   shift-ahead rows pos h on =
-      first-ahead (columnsOf a n) _ t (s .up-to) (shift-below a b n pos) (ne-eqb _ _ (λ e. on (s .so-far ∙ e ∙ ap (λ (r : ℕ). b * r % n) (sym h))))
+      first-ahead (columnsOf a n) _ t (s .up-to) (omega (arith, s .up-to, shift-below a b n pos)) (ne-eqb _ _ (λ e. on (s .so-far ∙ e ∙ ap (λ (r : ℕ). b * r % n) (sym h))))
 
   pub shift-step : (next : ℕ) → t < shiftOf a b n → next ≡ (reached + a % n) % n → ShiftAt a b n next (t + 1)
   shift-step next l e =

@@ -69,6 +69,11 @@ abbrev pub TrueBrick : Screen → List ℕ → Type 0
 TrueBrick s buffer =
     Admitted s → (s .n ≤ length buffer) × ((u v : ℕ) → u < columns s → v < rows s → getD buffer (v * columns s + u) 0 ≡ phase s u v)
 
--- Where the phase of (x, y) stands in a true brick, counted from the sheet's corner: row y mod H, column x − S × (y div H) mod L.
-unfoldable pub placeInBrick : Screen → ℕ → ℕ → ℕ
-placeInBrick s x y = y % rows s * columns s + remainderOf x (shift s * (y / rows s)) (columns s)
+-- The place of (x, y) in a brick of so many columns and rows and such a shift, counted from the sheet's corner: row y mod H, column
+-- x − S × (y div H) mod L.
+unfoldable pub brickPlace : ℕ → ℕ → ℕ → ℕ → ℕ → ℕ
+brickPlace columns rows shift x y = y % rows * columns + remainderOf x (shift * (y / rows)) columns
+
+-- where the phase of (x, y) stands in a true brick
+abbrev pub placeInBrick : Screen → ℕ → ℕ → ℕ
+placeInBrick s x y = brickPlace (columns s) (rows s) (shift s) x y

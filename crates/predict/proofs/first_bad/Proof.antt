@@ -1,22 +1,24 @@
--- `predict::first_bad` meets its contract: every primary before the one that it looks at is admitted. Assumes nothing.
-use Prim.Native.Nat.{ℕ, _≤_, _<_, _-_}
-use mathlib.Core.Path.{_≡_, sym, _∙_}
-use mathlib.Core.Bool.{true}
-use native.Mathlib.Omega.{arith}
+-- `predict::first_bad` meets its contract: no primary before the one that it looks at is bad. The measure is how many are left.
+-- Assumes nothing.
+use Prim.Native.Nat.{_-_}
+use mathlib.Core.Path.{ap}
+use mathlib.Core.Bool.{not}
 use borrow.Author.Needs.{needs}
-use Rattle.predict.specs.Predicted.{primary, admitted}
-use Rattle.predict.proofs.Steps.{bad-at, bad-none, good-next, denied, not-denied}
+use Rattle.arith.proofs.FirstLaws.{Searching, searching-start, searching-on, searching-found, searching-end}
+use Rattle.arith.proofs.RefusalLaws.{failed, passed}
+use Rattle.predict.specs.Predicted.{firstBad}
+use Rattle.predict.proofs.Steps.{bad}
 use Rattle.predict.proofs.first_bad.Statement.{statement}
 use Rattle.predict.proofs.first_bad.Tie as tie
 
 abbrev Inv-loop : tie.InvT-loop
-Inv-loop primaries first₀ first = (first ≤ 8) × ((j : ℕ) → j < first → admitted (primary primaries j) ≡ true)
+Inv-loop primaries first₀ first = Searching 8 (bad primaries) first
 
 abbrev μ-loop : tie.MeasureT-loop
 μ-loop primaries first₀ first = 8 - first
 
 loop-holds : tie.Need-loop-holds Inv-loop μ-loop
-loop-holds c = (omega arith, λ j l. absurd (omega arith))
+loop-holds c = searching-start _ _
 
 cast-is-admitted : tie.Need-cast-is-admitted Inv-loop μ-loop
 cast-is-admitted c = search needs
@@ -31,9 +33,9 @@ is-admitted-requires : tie.Need-is-admitted-requires Inv-loop μ-loop
 is-admitted-requires c κs = search needs
 
 returns : tie.Need-returns Inv-loop μ-loop
+unfolding firstBad
 returns c =
-    let turn = c .before .before .before .before .loop in
-    sym (bad-at _ _ (c .before .before .before .loop-test .taken) (turn .inv .1) (sym (c .before .is-admitted .ensures) ∙ denied _ (c .if1 .taken)))
+    searching-found (c .before .before .before .before .loop .inv) (ap not (failed (c .before .is-admitted .ensures) (c .if1 .taken)))
 
 add-first : tie.Need-add-first Inv-loop μ-loop
 add-first c = search needs
@@ -43,10 +45,11 @@ loop-less c = search needs
 
 loop-again : tie.Need-loop-again Inv-loop μ-loop
 loop-again c =
-    (omega arith, good-next (c .before .before .before .before .before .args .t1) _ (c .before .before .before .before .loop .inv .1) (sym (c .before .is-admitted .ensures) ∙ not-denied _ (c .if1 .left)))
+    searching-on (c .before .before .before .before .loop .inv) (c .before .before .before .loop-test .taken) (ap not (passed (c .before .is-admitted .ensures) (c .if1 .left)))
 
 returns-2 : tie.Need-returns-2 Inv-loop μ-loop
-returns-2 c = sym (bad-none _ (λ j l. c .before .loop .inv .1 j (omega arith)))
+unfolding firstBad
+returns-2 c = searching-end (c .before .loop .inv) (c .loop-test .left)
 
 pub first-bad-spec : {M : Type 1} → statement M
 first-bad-spec =

@@ -3,7 +3,8 @@
 use borrow.Author.Needs.{needs}
 use borrow.Author.Tests.{lt-ltb, le-ltb}
 use Rattle.screen.specs.Screens.{offsetAdmitted}
-use Rattle.screen.proofs.Refusals.{failed, passed, refused-1, refused-2, refused-3, refused-4, admitted}
+use Rattle.arith.proofs.RefusalLaws.{failed, passed}
+use Rattle.screen.proofs.Refusals.{refused-1, refused-2, refused-3, refused-4, admitted}
 use Rattle.screen.proofs.refusal.Statement.{statement}
 use Rattle.screen.proofs.refusal.Tie as tie
 

@@ -1,4 +1,4 @@
--- `plates::unpacking::colorant_of` meets its contract, by the laws of its loop (PixelLoops). The measure is how many planes are left.
+-- `plates::unpacking::colorant_of` meets its contract: no plane before the one that it looks at has the pixel. The measure is how many planes are left.
 -- Assumes nothing.
 use Prim.Native.Nat.{_-_}
 use mathlib.Core.Path.{sym, _∙_}
@@ -6,18 +6,20 @@ use native.Mathlib.Omega.{arith}
 use borrow.Author.Needs.{needs}
 use borrow.Author.Tests.{eq-eqb, ne-eqb}
 use Rattle.plates.proofs.PlaceLaws.{plane-row, row-place}
-use Rattle.plates.proofs.PixelLoops.{FirstAt, first-start, first-next, first-here, first-none}
+use Rattle.arith.proofs.FirstLaws.{Searching, searching-start, searching-on, searching-found, searching-end}
+use Rattle.plates.specs.Planes.{colorantOf}
+use Rattle.plates.proofs.PixelLoops.{has}
 use Rattle.plates.proofs.unpacking.colorant_of.Statement.{statement}
 use Rattle.plates.proofs.unpacking.colorant_of.Tie as tie
 
 abbrev Inv-loop : tie.InvT-loop
-Inv-loop bytes rows planes y x p₀ p = FirstAt bytes rows planes y x p
+Inv-loop bytes rows planes y x p₀ p = Searching 8 (has bytes rows planes y x) p
 
 abbrev μ-loop : tie.MeasureT-loop
 μ-loop bytes rows planes y x p₀ p = 8 - p
 
 loop-holds : tie.Need-loop-holds Inv-loop μ-loop
-loop-holds c = first-start _ _ _ _ _
+loop-holds c = searching-start _ _
 
 mul-bit-at : tie.Need-mul-bit-at Inv-loop μ-loop
 mul-bit-at c = omega (arith, plane-row (c .before .before .before .args .rows) (c .before .loop .p) (c .before .before .before .args .y) (c .loop-test .taken) (c .before .before .before .pre .2))
@@ -34,7 +36,8 @@ cast-result : tie.Need-cast-result Inv-loop μ-loop
 cast-result c = search needs
 
 returns : tie.Need-returns Inv-loop μ-loop
-returns c = first-here (c .before .before .before .loop .inv) (eq-eqb _ _ (sym (c .before .bit-at .ensures .0) ∙ c .if1 .taken))
+unfolding colorantOf
+returns c = searching-found (c .before .before .before .loop .inv) (eq-eqb _ _ (sym (c .before .bit-at .ensures .0) ∙ c .if1 .taken))
 
 add-p : tie.Need-add-p Inv-loop μ-loop
 add-p c = search needs
@@ -43,10 +46,11 @@ loop-less : tie.Need-loop-less Inv-loop μ-loop
 loop-less c = search needs
 
 loop-again : tie.Need-loop-again Inv-loop μ-loop
-loop-again c = first-next (c .before .before .before .loop .inv) (c .before .before .loop-test .taken) (ne-eqb _ _ (λ e. c .if1 .left (c .before .bit-at .ensures .0 ∙ e)))
+loop-again c = searching-on (c .before .before .before .loop .inv) (c .before .before .loop-test .taken) (ne-eqb _ _ (λ e. c .if1 .left (c .before .bit-at .ensures .0 ∙ e)))
 
 returns-2 : tie.Need-returns-2 Inv-loop μ-loop
-returns-2 c = first-none (c .before .loop .inv) (c .loop-test .left)
+unfolding colorantOf
+returns-2 c = searching-end (c .before .loop .inv) (c .loop-test .left)
 
 pub colorant-of-spec : {M : Type 1} → statement M
 colorant-of-spec =

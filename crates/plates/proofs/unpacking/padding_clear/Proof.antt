@@ -6,7 +6,7 @@ use borrow.Author.Needs.{needs}
 use Rattle.arith.specs.Every.{every}
 use Rattle.plates.specs.Planes.{rowBytes, bitAt, paddingClear}
 use Rattle.plates.proofs.PlaceLaws.{row-ends}
-use Rattle.plates.proofs.Refusals.{failed, passed}
+use Rattle.arith.proofs.RefusalLaws.{failed, passed}
 use Rattle.arith.proofs.EveryLaws.{Passed, passed-start, passed-step, passed-fails, passed-end}
 use Rattle.plates.proofs.unpacking.padding_clear.Statement.{statement}
 use Rattle.plates.proofs.unpacking.padding_clear.Tie as tie

@@ -4,7 +4,7 @@ use lib.Dec.{eqb}
 use borrow.Author.Needs.{needs}
 use Rattle.arith.specs.Every.{every}
 use Rattle.plates.specs.Planes.{rowBytes, planesWith, pixelsOnce}
-use Rattle.plates.proofs.Refusals.{failed, passed}
+use Rattle.arith.proofs.RefusalLaws.{failed, passed}
 use Rattle.arith.proofs.EveryLaws.{Passed, passed-start, passed-step, passed-fails, passed-end}
 use Rattle.plates.proofs.unpacking.pixels_once.Statement.{statement}
 use Rattle.plates.proofs.unpacking.pixels_once.Tie as tie

@@ -45,10 +45,10 @@ returns-3 c =
     window-down _ _ _ _ (sym (screen .before .refusal .ensures) ∙ screen .if1 .left) (right .if2 .left) (c .if3 .taken)
 
 mul-cells : tie.Need-mul-cells
-mul-cells c = omega (arith, area-limit _ (c .before .before .if2 .left) (c .if3 .left))
+mul-cells c = omega (arith, area-limit _ _ _ _ (c .before .before .if2 .left) (c .if3 .left))
 
 mul-if4 : tie.Need-mul-if4
-mul-if4 c = omega (arith, area-limit _ (c .before .before .if2 .left) (c .if3 .left))
+mul-if4 c = omega (arith, area-limit _ _ _ _ (c .before .before .if2 .left) (c .if3 .left))
 
 returns-4 : tie.Need-returns-4
 returns-4 c =

@@ -4,35 +4,35 @@ use Prim.Native.Nat.{_+_, _-_}
 use native.Mathlib.Omega.{arith}
 use lib.ListN.{getD}
 use borrow.Author.Needs.{needs}
-use Rattle.render.specs.Rows.{brickPlace}
-use Rattle.render.proofs.WindowLoop.{WindowAt, window-start, window-length, area-few, next-fits, row-input, out-part, window-step, window-end}
+use Rattle.screen.specs.Brick.{brickPlace}
+use Rattle.render.proofs.WindowLoop.{WindowAt, window-start, window-length, next-fits, next-few, row-input, window-step, window-end}
 use Rattle.render.proofs.windows.read_rows.Statement.{statement}
 use Rattle.render.proofs.windows.read_rows.Tie as tie
 
 abbrev Inv-loop : tie.InvT-loop
 Inv-loop n sep table brick size x y columns rows input out₀ wide tallies₀ from₀ j₀ out tallies from j =
-    WindowAt n sep table (λ u v. getD brick (brickPlace (size .columns) (size .rows) (size .shift) (x + u) (y + v)) 0) input columns rows out₀ out tallies j from
+    WindowAt n sep table (λ u v. getD brick (brickPlace (size .columns) (size .rows) (size .shift) (x + u) (y + v)) 0) input columns out₀ out tallies j from
 
 abbrev μ-loop : tie.MeasureT-loop
 μ-loop n sep table brick size x y columns rows input out₀ wide tallies₀ from₀ j₀ out tallies from j = rows - j
 
 loop-holds : tie.Need-loop-holds Inv-loop μ-loop
-loop-holds c = window-start _ _ _ _ _ _ _ _
+loop-holds c = window-start _ _ _ _ _ _ _
 
 add-to : tie.Need-add-to Inv-loop μ-loop
 add-to c =
     let turn = c .before in
-    omega (arith, next-fits (turn .loop .inv) (c .loop-test .taken), area-few (turn .before .before .before .before .before .pre .1))
+    omega (arith, next-few (turn .loop .inv) (c .loop-test .taken) _ _ (turn .before .before .before .before .before .pre .1))
 
 mul-a : tie.Need-mul-a Inv-loop μ-loop
 mul-a c =
     let turn = c .before in
-    omega (arith, next-fits (turn .loop .inv) (c .loop-test .taken), area-few (turn .before .before .before .before .before .pre .1))
+    omega (arith, next-few (turn .loop .inv) (c .loop-test .taken) _ _ (turn .before .before .before .before .before .pre .1))
 
 mul-b : tie.Need-mul-b Inv-loop μ-loop
 mul-b c =
     let turn = c .before in
-    omega (arith, next-fits (turn .loop .inv) (c .loop-test .taken), area-few (turn .before .before .before .before .before .pre .1))
+    omega (arith, next-few (turn .loop .inv) (c .loop-test .taken) _ _ (turn .before .before .before .before .before .pre .1))
 
 add-brick-row : tie.Need-add-brick-row Inv-loop μ-loop
 add-brick-row c = omega (arith, c .before .before .before .before .before .before .pre .1 .high)
@@ -58,13 +58,13 @@ part-brick-row-end-2 : tie.Need-part-brick-row-end-2 Inv-loop μ-loop
 part-brick-row-end-2 c =
     let turn = c .before .before in
     let pre = turn .before .before .before .before .before .pre .1 in
-    omega (arith, next-fits (turn .loop .inv) (c .before .loop-test .taken), window-length (turn .loop .inv) (pre .cells), pre .cells)
+    omega (arith, next-fits (turn .loop .inv) (c .before .loop-test .taken), window-length (turn .loop .inv), pre .cells)
 
 brick-row-requires : tie.Need-brick-row-requires Inv-loop μ-loop
 brick-row-requires c κs =
     let turn = c .before .before .before .before in
     let pre = turn .before .before .before .before .before .pre in
-    (row-input (turn .loop .inv) _ _ (pre .1) (c .before .before .before .loop-test .taken), (pre .0, omega (arith, pre .1 .high)))
+    (row-input (turn .loop .inv) (c .before .before .before .loop-test .taken) _ _ (pre .1), (pre .0, omega (arith, pre .1 .high)))
 
 add-j : tie.Need-add-j Inv-loop μ-loop
 add-j c = search needs
@@ -76,14 +76,13 @@ loop-again : tie.Need-loop-again Inv-loop μ-loop
 loop-again c =
     let turn = c .before .before .before .before .before .before .before in
     let within = c .before .before .before .before .before .before .loop-test .taken in
-    let pre = turn .before .before .before .before .before .pre .1 in
-    window-step (turn .loop .inv) _ _ _ within (out-part (turn .loop .inv) within (pre .cells)) (c .before .before .brick-row .ensures)
+    window-step (turn .loop .inv) within _ _ (turn .before .before .before .before .before .pre .1 .cells) (c .before .before .brick-row .ensures)
 
 same-length : tie.Need-same-length Inv-loop μ-loop
-same-length c = window-length (c .before .loop .inv) (c .before .before .before .before .before .before .pre .1 .cells)
+same-length c = window-length (c .before .loop .inv)
 
 returns : tie.Need-returns Inv-loop μ-loop
-returns c = window-end (c .before .loop .inv) (c .loop-test .left) (c .before .before .before .before .before .before .pre .1 .cells)
+returns c = window-end (c .before .loop .inv) _ (c .loop-test .left) (c .before .before .before .before .before .before .pre .1 .cells)
 
 pub read-rows-spec : {M : Type 1} → statement M
 read-rows-spec =

@@ -6,10 +6,10 @@ use mathlib.Core.Path.{sym, ap, _∙_}
 use native.Mathlib.Omega.{arith}
 use lib.ListN.{getD}
 use borrow.Author.Needs.{needs}
-use borrow.Author.Tests.{not-true, not-false}
+use Rattle.arith.proofs.RefusalLaws.{failed, passed}
+use Rattle.screen.specs.Brick.{brickPlace}
 use Rattle.screen.proofs.Published.{brick-answered}
 use Rattle.render.specs.Windows.{talliesOf}
-use Rattle.render.specs.Rows.{brickPlace}
 use Rattle.render.proofs.RefusalLaws.{window-kept, due-true, brick-window, brick-undue, brick-whole}
 use Rattle.render.proofs.AnswerLaws.{answer-none, answer-empty, answer-whole, cells-length, cells-are, window-input, listed}
 use Rattle.render.proofs.DemandLaws.{read-keeps}
@@ -39,7 +39,7 @@ returns-2 c =
     let compared = c .before .before in
     let tested = compared .before in
     let e = sym (tested .before .window-refusal .ensures) ∙ tested .if1 .left in
-    read-keeps _ _ _ _ _ _ (answer-none _ _ _ 8 (brick-undue _ _ _ _ _ e (sym (compared .brick-due .ensures) ∙ not-true _ (c .before .if2 .taken))) (λ z. omega (arith, z)) (c .nothing2 .ensures))
+    read-keeps _ _ _ _ _ _ (answer-none _ _ _ 8 (brick-undue _ _ _ _ _ e (failed (compared .brick-due .ensures) (c .before .if2 .taken))) (λ z. omega (arith, z)) (c .nothing2 .ensures))
 
 nothing-requires-3 : tie.Need-nothing-requires-3
 nothing-requires-3 c κs = search needs
@@ -50,7 +50,7 @@ returns-3 c =
     let compared = due .before in
     let tested = compared .before in
     let e = sym (tested .before .window-refusal .ensures) ∙ tested .if1 .left in
-    let r = sym (brick-whole _ _ _ _ _ e (sym (compared .brick-due .ensures) ∙ not-false _ (due .if2 .left))) in
+    let r = sym (brick-whole _ _ _ _ _ e (passed (compared .brick-due .ensures) (due .if2 .left))) in
     read-keeps _ _ _ _ _ _ (answer-empty _ _ _ r (cells-length _ _ _ _ ∙ sym (window-kept _ _ _ _ e .4) ∙ c .before .if3 .taken) (c .before .if3 .taken) (c .nothing3 .ensures))
 
 places-requires : tie.Need-places-requires
@@ -78,7 +78,7 @@ read-rows-requires c κs =
     let tested = compared .before in
     let e = sym (tested .before .window-refusal .ensures) ∙ tested .if1 .left in
     let ok = window-kept _ _ _ _ e .0 in
-    let holds = due-true _ _ ok (sym (compared .brick-due .ensures) ∙ not-false _ (due .if2 .left)) in
+    let holds = due-true _ _ ok (passed (compared .brick-due .ensures) (due .if2 .left)) in
     let long = listed _ _ _ ok (room .places .ensures) (call .thresholds .ensures .1) in
     (brick-input _ ok _ holds _ (size .brick-of .ensures ∙ brick-answered _ ok), window-input _ _ _ _ _ e (room .before .if3 .left) (long .0))
 
@@ -96,14 +96,14 @@ returns-4 c =
     let tested = compared .before in
     let start = tested .before .before .before .before .before in
     let e = sym (tested .before .window-refusal .ensures) ∙ tested .if1 .left in
-    let passed = sym (compared .brick-due .ensures) ∙ not-false _ (due .if2 .left) in
+    let tells = passed (compared .brick-due .ensures) (due .if2 .left) in
     let kept = window-kept _ _ _ _ e in
-    let holds = due-true _ _ (kept .0) passed in
+    let holds = due-true _ _ (kept .0) tells in
     let bytes : (k : ℕ) → getD (start .args .input .now) k 0 ≤ 255 = λ k. omega (arith, tested .before .before .before .before .shared-slice-known .given k) in
     let long = listed _ _ _ (kept .0) (room .places .ensures) (call .thresholds .ensures .1) in
     let reads = brick-reads (start .args .s) (kept .0) (start .args .brick .now) holds (size .brick-of .result) (size .brick-of .ensures ∙ brick-answered _ (kept .0)) in
     let cells = cells-are (start .args .s) (start .args .sep) (start .args .w) (start .args .input .now) (kept .0) bytes (call .thresholds .last .1 .0) (long .1) (λ u v. getD (start .args .brick .now) (brickPlace (size .brick-of .result .columns) (size .brick-of .result .rows) (size .brick-of .result .shift) (start .args .w .x + u) (start .args .w .y + v)) 0) (λ u v. reads (start .args .w .x + u) (start .args .w .y + v)) in
-    read-keeps _ _ _ _ _ _ (answer-whole _ _ _ (sym (brick-whole _ _ _ _ _ e passed)) (cells-length _ _ _ _ ∙ sym (kept .4)) (rows .read-rows .ensures .counts ∙ ap talliesOf cells) (rows .read-rows .ensures .cells ∙ cells))
+    read-keeps _ _ _ _ _ _ (answer-whole _ _ _ (sym (brick-whole _ _ _ _ _ e tells)) (cells-length _ _ _ _ ∙ sym (kept .4)) (rows .read-rows .ensures .counts ∙ ap talliesOf cells) (rows .read-rows .ensures .cells ∙ cells))
 
 pub render-brick-spec : {M : Type 1} → statement M
 render-brick-spec =

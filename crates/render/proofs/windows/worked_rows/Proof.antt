@@ -11,7 +11,7 @@ use Rattle.screen.specs.declared.places.Place.{Place}
 use Rattle.screen.specs.Phase.{phase}
 use Rattle.screen.proofs.Published.{phase-below, steps-right, place-on-sheet}
 use Rattle.render.proofs.RowLoop.{written-same}
-use Rattle.render.proofs.WindowLoop.{WindowAt, window-start, window-length, area-few, next-fits, row-input, out-part, window-step, window-end}
+use Rattle.render.proofs.WindowLoop.{WindowAt, window-start, window-length, next-fits, next-few, row-input, window-step, window-end}
 use Rattle.render.proofs.windows.worked_rows.Statement.{statement}
 use Rattle.render.proofs.windows.worked_rows.Tie as tie
 use Rattle.render.proofs.windows.worked_rows.Reads as reads
@@ -21,7 +21,7 @@ use Rattle.screen.proofs.phase_at.Reads as phase-at-reads
 
 abbrev Inv-loop : tie.InvT-loop
 Inv-loop s sep table x y columns rows input out₀ wide step tallies₀ from₀ j₀ out tallies from j =
-    WindowAt (s .n) sep table (λ u v. phase s (x + u) (y + v)) input columns rows out₀ out tallies j from
+    WindowAt (s .n) sep table (λ u v. phase s (x + u) (y + v)) input columns out₀ out tallies j from
 
 abbrev μ-loop : tie.MeasureT-loop
 μ-loop s sep table x y columns rows input out₀ wide step tallies₀ from₀ j₀ out tallies from j = rows - j
@@ -30,12 +30,12 @@ rem-step : tie.Need-rem-step Inv-loop μ-loop
 rem-step c = c .before .before .before .before .pre .1 .some
 
 loop-holds : tie.Need-loop-holds Inv-loop μ-loop
-loop-holds c = window-start _ _ _ _ _ _ _ _
+loop-holds c = window-start _ _ _ _ _ _ _
 
 add-to : tie.Need-add-to Inv-loop μ-loop
 add-to c =
     let start = c .before .before .before .before .before .before in
-    omega (arith, next-fits (c .before .loop .inv) (c .loop-test .taken), area-few (start .pre .1))
+    omega (arith, next-few (c .before .loop .inv) (c .loop-test .taken) _ _ (start .pre .1))
 
 add-phase-at : tie.Need-add-phase-at Inv-loop μ-loop
 add-phase-at c =
@@ -48,12 +48,12 @@ phase-at-requires c κs = search needs
 mul-a : tie.Need-mul-a Inv-loop μ-loop
 mul-a c =
     let turn = c .before .before in
-    omega (arith, next-fits (turn .loop .inv) (c .before .loop-test .taken), area-few (turn .before .before .before .before .before .pre .1))
+    omega (arith, next-few (turn .loop .inv) (c .before .loop-test .taken) _ _ (turn .before .before .before .before .before .pre .1))
 
 mul-b : tie.Need-mul-b Inv-loop μ-loop
 mul-b c =
     let turn = c .before .before in
-    omega (arith, next-fits (turn .loop .inv) (c .before .loop-test .taken), area-few (turn .before .before .before .before .before .pre .1))
+    omega (arith, next-few (turn .loop .inv) (c .before .loop-test .taken) _ _ (turn .before .before .before .before .before .pre .1))
 
 sub-row : tie.Need-sub-row Inv-loop μ-loop
 sub-row c = search needs
@@ -76,7 +76,7 @@ part-row-end-2 : tie.Need-part-row-end-2 Inv-loop μ-loop
 part-row-end-2 c =
     let turn = c .before .before .before in
     let pre = turn .before .before .before .before .before .pre .1 in
-    omega (arith, next-fits (turn .loop .inv) (c .before .before .loop-test .taken), window-length (turn .loop .inv) (pre .cells), pre .cells)
+    omega (arith, next-fits (turn .loop .inv) (c .before .before .loop-test .taken), window-length (turn .loop .inv), pre .cells)
 
 -- a row's first phase
 first : (c : lts.After-phase-at (phase-at-reads.Asked, phase-at-reads.Learnt, row-reads.Asked, row-reads.Learnt) reads.Pre reads.Post Inv-loop μ-loop)
@@ -89,7 +89,7 @@ row-requires : tie.Need-row-requires Inv-loop μ-loop
 row-requires c κs =
     let turn = c .before .before .before .before .before in
     let start = turn .before .before .before .before .before in
-    (row-input (turn .loop .inv) _ _ (start .pre .1) (c .before .before .before .before .loop-test .taken), rw (first (c .before .before .before)) (phase-below _ (start .pre .0) _ _), le-of-lt (mod-lt _ (start .pre .1 .some)))
+    (row-input (turn .loop .inv) (c .before .before .before .before .loop-test .taken) _ _ (start .pre .1), rw (first (c .before .before .before)) (phase-below _ (start .pre .0) _ _), le-of-lt (mod-lt _ (start .pre .1 .some)))
 
 add-j : tie.Need-add-j Inv-loop μ-loop
 add-j c = search needs
@@ -104,13 +104,13 @@ loop-again c =
     let start = turn .before .before .before .before .before in
     let s = start .args .s in
     let carried : (i : ℕ) → (c .before .before .before .before .before .before .phase-at .result .phase + s .a % s .n * i) % s .n ≡ phase s (start .args .x + i) (start .args .y + turn .loop .j) = λ i. rw (first (c .before .before .before .before .before .before)) (remainder-times _ (s .a) (s .n) i ∙ sym (steps-right s (start .pre .0) _ _ i)) in
-    window-step (turn .loop .inv) _ _ _ within (out-part (turn .loop .inv) within (start .pre .1 .cells)) (written-same _ _ _ _ _ _ _ _ carried (c .before .before .row .ensures))
+    window-step (turn .loop .inv) within _ _ (start .pre .1 .cells) (written-same _ _ _ _ _ _ _ _ carried (c .before .before .row .ensures))
 
 same-length : tie.Need-same-length Inv-loop μ-loop
-same-length c = window-length (c .before .loop .inv) (c .before .before .before .before .before .before .pre .1 .cells)
+same-length c = window-length (c .before .loop .inv)
 
 returns : tie.Need-returns Inv-loop μ-loop
-returns c = window-end (c .before .loop .inv) (c .loop-test .left) (c .before .before .before .before .before .before .pre .1 .cells)
+returns c = window-end (c .before .loop .inv) _ (c .loop-test .left) (c .before .before .before .before .before .before .pre .1 .cells)
 
 pub worked-rows-spec : {M : Type 1} → statement M
 worked-rows-spec =
