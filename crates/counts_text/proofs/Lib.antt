@@ -1,0 +1,14 @@
+pub mod Published
+pub mod Worked
+mod SplitLaws
+mod NumberLaws
+mod WroteLaws
+mod JoinedLaws
+mod LineLoop
+mod LineLaws
+mod NumbersLoop
+mod HeadLaws
+mod JudgeLaws
+mod FirstLine
+mod CountsLoop
+mod Fits

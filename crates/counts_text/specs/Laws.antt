@@ -1,0 +1,30 @@
+-- What `counts_text` promises of its definitions beside its contract. Each is a statement; proofs/Published.antt proves it.
+-- Assumes nothing.
+use Prim.Native.Nat.{ℕ, _≤_}
+use mathlib.Core.Path.{_≡_}
+use mathlib.Core.Bool.{true}
+use mathlib.Core.List.{List}
+use lib.ListN.{length}
+use Rattle.screen.specs.declared.Screen.{Screen}
+use Rattle.screen.specs.Screens.{Admitted}
+use Rattle.quantiser.specs.Running.{countsOf}
+use Rattle.counts_text.specs.Numbers.{isNumber, valueOf, numeral}
+use Rattle.counts_text.specs.Lines.{letterC, separationIn, inksIn, lineOf, countsLine}
+use Rattle.counts_text.specs.Program.{countsText}
+
+-- writing a number and reading it back gives the number
+abbrev pub NumberBack : Type 0
+NumberBack = (v : ℕ) → v ≤ 99999 → (isNumber (numeral v) ≡ true) × (valueOf (numeral v) ≡ v)
+
+-- and reading a number and writing it back gives the field
+abbrev pub FieldBack : Type 0
+FieldBack = (field : List ℕ) → isNumber field ≡ true → numeral (valueOf field) ≡ field
+
+-- "For each P it writes C and the eight counts.": those that `quantiser` answers
+abbrev pub CountsWritten : Type 0
+CountsWritten =
+    (s : Screen) → Admitted s → (line : List ℕ) → countsLine s line ≡ lineOf letterC (countsOf s (separationIn line) (inksIn line) .of)
+
+-- whatever is read, what is written fits the lent array
+abbrev pub OutputFits : Type 0
+OutputFits = (text : List ℕ) → length (countsText text) ≤ 16384

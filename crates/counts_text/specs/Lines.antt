@@ -1,0 +1,90 @@
+-- Document 01, 'Counts program': what a line holds, and what refuses it.
+-- Assumes nothing: these are definitions.
+use Prim.Native.Nat.{ℕ}
+use mathlib.Core.Bool.{Bool, cond, _&&_, _||_}
+use mathlib.Core.List.{List, [], _∷_, _++_}
+use lib.Dec.{eqb}
+use lib.ListN.{length, getD, drop}
+use Rattle.arith.specs.Every.{every}
+use Rattle.arith.specs.Refusal.{unless}
+use Rattle.arith.specs.Run.{upto}
+use Rattle.screen.specs.declared.Screen.{Screen}
+use Rattle.screen.specs.Screens.{refusalOf}
+use Rattle.separation.specs.declared.Separation.{Separation}
+use Rattle.separation.specs.declared.Separation.the-variants.{Demichel, Kueppers}
+use Rattle.separation.specs.declared.Inks.{Inks}
+use Rattle.quantiser.specs.Running.{count}
+use Rattle.counts_text.specs.Text.{newline, tab, fields, fieldAt, same, joined}
+use Rattle.counts_text.specs.Numbers.{isNumberTo, valueOf, numeral}
+
+-- the letters S, P, C and E
+abbrev pub letterS : ℕ
+letterS = 83
+
+abbrev pub letterP : ℕ
+letterP = 80
+
+abbrev pub letterC : ℕ
+letterC = 67
+
+abbrev pub letterE : ℕ
+letterE = 69
+
+-- the bytes of `demichel` and of `kueppers`
+abbrev pub demichel : List ℕ
+demichel = 100 ∷ 101 ∷ 109 ∷ 105 ∷ 99 ∷ 104 ∷ 101 ∷ 108 ∷ []
+
+abbrev pub kueppers : List ℕ
+kueppers = 107 ∷ 117 ∷ 101 ∷ 112 ∷ 112 ∷ 101 ∷ 114 ∷ 115 ∷ []
+
+-- whether fields are so many numbers, none above a limit
+unfoldable pub areNumbers : ℕ → ℕ → List (List ℕ) → Bool
+areNumbers many most numbers = eqb (length numbers) many && every many (λ i. isNumberTo most (getD numbers i []))
+
+-- the i-th of such fields as a number
+abbrev pub numberAt : List (List ℕ) → ℕ → ℕ
+numberAt numbers i = valueOf (getD numbers i [])
+
+-- "Line 1: the letter S, then a, b, N, K, g." (99,999 is the greatest number of 5 digits.)
+unfoldable pub isScreen : List ℕ → Bool
+isScreen line = same (fieldAt line 0) (letterS ∷ []) && areNumbers 5 99999 (drop 1 (fields line))
+
+abbrev pub screenOf : (ℕ → ℕ) → Screen
+screenOf number = record { a = number 0; b = number 1; n = number 2; k = number 3; g = number 4 }
+
+unfoldable pub screenIn : List ℕ → Screen
+screenIn line = screenOf (numberAt (drop 1 (fields line)))
+
+-- "P, `demichel` or `kueppers`, c, m, y", "ink values are at most 255"
+unfoldable pub isPatch : List ℕ → Bool
+isPatch line =
+    same (fieldAt line 0) (letterP ∷ []) && (same (fieldAt line 1) demichel || same (fieldAt line 1) kueppers)
+    && areNumbers 3 255 (drop 2 (fields line))
+
+unfoldable pub separationIn : List ℕ → Separation
+separationIn line = cond (same (fieldAt line 1) demichel) Demichel Kueppers
+
+abbrev pub inksOf : (ℕ → ℕ) → Inks
+inksOf number = record { c = number 0; m = number 1; y = number 2 }
+
+unfoldable pub inksIn : List ℕ → Inks
+inksIn line = inksOf (numberAt (drop 2 (fields line)))
+
+-- "10 is tested before 1 to 4 within a line"
+unfoldable pub screenRefusal : List ℕ → ℕ
+screenRefusal line = unless (isScreen line) 10 (refusalOf (screenIn line))
+
+unfoldable pub patchRefusal : List ℕ → ℕ
+patchRefusal line = unless (isPatch line) 10 0
+
+-- a line that is written: a letter, then numbers, each after a tab
+unfoldable pub lineOf : ℕ → List ℕ → List ℕ
+lineOf letter numbers = letter ∷ joined (length numbers) (λ i. tab ∷ numeral (getD numbers i 0)) ++ newline ∷ []
+
+-- "For each P it writes C and the eight counts."
+unfoldable pub countsLine : Screen → List ℕ → List ℕ
+countsLine s line = lineOf letterC (upto (count s (separationIn line) (inksIn line)) 8)
+
+-- "it writes only E, line number, refusal number"
+unfoldable pub errorLine : ℕ → ℕ → List ℕ
+errorLine number refusal = lineOf letterE (number ∷ refusal ∷ [])
