@@ -1,11 +1,11 @@
 -- Refusals from the tests that a call makes, one law a number; and what a call leaves in lent memory, refused or not.
 -- Assumes nothing.
-use Prim.Native.Nat.{ℕ, suc, _≤_}
+use Prim.Native.Nat.{ℕ, _≤_}
 use mathlib.Core.Path.{_≡_, refl, sym, _∙_}
 use mathlib.Core.Bool.{true, false, _&&_}
-use mathlib.Core.List.{List, append-nil}
-use native.Mathlib.Nat.{suc-ne-zero, le-of-eq}
-use lib.ListN.{length, drop-of-length-le}
+use mathlib.Core.List.{List}
+use native.Mathlib.Nat.{suc-ne-zero}
+use lib.ListN.{length}
 use borrow.Author.Tests.{leb-true, eqb-true, eq-eqb, ne-eqb}
 use Rattle.arith.proofs.RefusalLaws.{both-pass, unless-none, refused-first, refused-later, or-none, written-all, written-refused}
 use Rattle.arith.proofs.RunLaws.{upto-length}

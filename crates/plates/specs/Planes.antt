@@ -41,8 +41,12 @@ inPlane columns cell p x = ltb x columns && eqb (cell x) p
 
 -- Byte b of a row of plane p: the masks of those of its eight pixels that have the colorant p.
 -- "Padding bits are 0": a pixel past the row's columns adds no mask.
+unfoldable pub masksUpTo : ℕ → (ℕ → ℕ) → ℕ → ℕ → ℕ → ℕ
+masksUpTo columns cell p b pixels = sumBelow pixels (λ t. indicator (inPlane columns cell p (8 * b + t)) * mask (8 * b + t))
+
 unfoldable pub planeByte : ℕ → (ℕ → ℕ) → ℕ → ℕ → ℕ
-planeByte columns cell p b = sumBelow 8 (λ t. indicator (inPlane columns cell p (8 * b + t)) * mask (8 * b + t))
+unfolding masksUpTo
+planeByte columns cell p b = masksUpTo columns cell p b 8
 
 -- place i of the planes is byte i % rowBytes of row i / rowBytes, which is row y of plane p
 unfoldable pub planesByte : ℕ → ℕ → List ℕ → ℕ → ℕ

@@ -1,9 +1,9 @@
 // Packing: from cells to planes.
 ghost use mathlib.Core.Path.{_≡_};
-ghost use Prim.Native.Nat.{_≤_};
+ghost use Prim.Native.Nat.{_+_, _*_, _≤_};
 ghost use lib.ListN.{length, getD};
 ghost use Rattle.arith.specs.Run.{upto};
-ghost use Rattle.plates.specs.Planes.{rowBytes, planesLength, cellsLength, inPlane, planeByte, planesOf, colorantsOnly};
+ghost use Rattle.plates.specs.Planes.{rowBytes, planesLength, cellsLength, planeByte, masksUpTo, planesOf, colorantsOnly};
 ghost use Rattle.plates.specs.Refusals.{packRefusal, packed};
 use crate::lengths_refusal;
 use crate::mask_of;
@@ -77,24 +77,29 @@ fn write_row(cells: &[u8], colorant: u8, out: &mut [u8])
     }
 }
 
-// Byte b of a row of the plane of a colorant.
+// Byte b of a row of the plane of a colorant. All bytes but a row's last have eight pixels, and are told
+// apart so that the compiler has a constant to unroll.
 fn byte_of(cells: &[u8], colorant: u8, b: usize) -> u8
-    requires { ⌜ b ≤ 65536 ⌝ }
+    requires { ⌜ (length (now cells) ≤ 65536) × (8 * b ≤ length (now cells)) ⌝ }
     ensures { λ r. ⌜ r ≡ planeByte (length (now (cells .entry))) (λ x. getD (now (cells .entry)) x 0) colorant b ⌝ }
 {
-    let mut byte = 0;
-    for t in 0..8 {
-        let x = 8 * b + t;
-        if in_plane(cells, colorant, x) {
-            byte += mask_of(x);
-        }
+    let pixels = cells.len() - 8 * b;
+    if 8 <= pixels {
+        return masks_of(cells, colorant, b, 8);
     }
-    byte
+    masks_of(cells, colorant, b, pixels)
 }
 
-// Whether pixel x of a row is one of its cells and has the colorant.
-fn in_plane(cells: &[u8], colorant: u8, x: usize) -> bool
-    ensures { λ r. ⌜ r ≡ inPlane (length (now (cells .entry))) (λ z. getD (now (cells .entry)) z 0) colorant x ⌝ }
+// The masks of those of a byte's first pixels that have the colorant, added up.
+fn masks_of(cells: &[u8], colorant: u8, b: usize, pixels: usize) -> u8
+    requires { ⌜ (length (now cells) ≤ 65536) × (pixels ≤ 8) × (8 * b + pixels ≤ length (now cells)) ⌝ }
+    ensures { λ r. ⌜ r ≡ masksUpTo (length (now (cells .entry))) (λ x. getD (now (cells .entry)) x 0) colorant b pixels ⌝ }
 {
-    x < cells.len() && cells[x] == colorant
+    let mut byte = 0;
+    for t in 0..pixels {
+        let x = 8 * b + t;
+        let has = (cells[x] == colorant) as u8;
+        byte += has * mask_of(x);
+    }
+    byte
 }

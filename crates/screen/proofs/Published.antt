@@ -2,7 +2,7 @@
 -- Assumes nothing.
 use Prim.Native.Nat.{ℕ, _+_, _*_, _/_, _<_}
 use mathlib.Core.Path.{_≡_, sym, ap₂, _∙_, subst}
-use mathlib.Core.List.{List, _++_}
+use mathlib.Core.List.{_++_}
 use native.Mathlib.Nat.{mul-one, mod-lt, le-trans, le-of-eq}
 use lib.ListN.{length, drop, List·getD-append}
 use lib.Arith.{digits-lt, digits-div, digits-mod}

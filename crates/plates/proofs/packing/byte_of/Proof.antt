@@ -1,69 +1,32 @@
--- `plates::packing::byte_of` meets its contract, by the laws of its loop (ByteLoop). The measure is how many pixels are left.
--- Assumes nothing.
-use Prim.Native.Nat.{_-_}
-use mathlib.Core.Path.{sym, _∙_}
-use mathlib.Core.Logic.{⊎-elim}
-use lib.ListN.{length, getD}
+-- `plates::packing::byte_of` meets its contract: pixels that a row's last byte lacks add nothing. Assumes nothing.
+use mathlib.Core.Path.{_∙_}
+use native.Mathlib.Omega.{arith}
 use borrow.Author.Needs.{needs}
-use Rattle.plates.proofs.ByteLoop.{ByteAt, byte-start, byte-fits, byte-added, byte-kept, byte-end}
+use Rattle.plates.specs.Planes.{planeByte}
+use Rattle.plates.proofs.ByteLoop.{byte-rest}
 use Rattle.plates.proofs.packing.byte_of.Statement.{statement}
 use Rattle.plates.proofs.packing.byte_of.Tie as tie
 
-abbrev Inv-loop : tie.InvT-loop
-Inv-loop cells colorant b byte₀ t₀ byte t = ByteAt (length cells) (λ x. getD cells x 0) colorant b byte t
+mul-pixels : tie.Need-mul-pixels
+mul-pixels c = search needs
 
-abbrev μ-loop : tie.MeasureT-loop
-μ-loop cells colorant b byte₀ t₀ byte t = 8 - t
+sub-pixels : tie.Need-sub-pixels
+sub-pixels c = search needs
 
-loop-holds : tie.Need-loop-holds Inv-loop μ-loop
-loop-holds c = byte-start _ _ _ _
+masks-of-requires : tie.Need-masks-of-requires
+masks-of-requires c κs = search needs
 
-mul-x : tie.Need-mul-x Inv-loop μ-loop
-mul-x c = search needs
+returns : tie.Need-returns
+unfolding planeByte
+returns c = c .masks-of .ensures
 
-add-x : tie.Need-add-x Inv-loop μ-loop
-add-x c = search needs
+masks-of-requires-2 : tie.Need-masks-of-requires-2
+masks-of-requires-2 c κs = search needs
 
-in-plane-requires : tie.Need-in-plane-requires Inv-loop μ-loop
-in-plane-requires c κs = search needs
-
-mask-of-requires : tie.Need-mask-of-requires Inv-loop μ-loop
-mask-of-requires c κs = search needs
-
-add-byte : tie.Need-add-byte Inv-loop μ-loop
-add-byte c = record { fits = rw (c .mask-of .ensures) (byte-fits (c .before .before .before .before .loop .inv) (c .before .before .before .loop-test .taken)) }
-
-add-t : tie.Need-add-t Inv-loop μ-loop
-add-t c = search needs
-
-loop-less : tie.Need-loop-less Inv-loop μ-loop
-loop-less c = search needs
-
-loop-again : tie.Need-loop-again Inv-loop μ-loop
-loop-again c =
-    let turn = c .before .before in
-    let byte = turn .before .loop .inv in
-    ⊎-elim
-    (λ w. rw (w .2, w .1 .ensures) (byte-added byte (turn .loop-test .taken) (sym (c .before .in-plane .ensures) ∙ w .0 .taken)))
-    (λ w. rw (w .1) (byte-kept byte (turn .loop-test .taken) (sym (c .before .in-plane .ensures) ∙ w .0 .left)))
-    (c .if1 .came)
-
-returns : tie.Need-returns Inv-loop μ-loop
-returns c = byte-end (c .before .loop .inv) (c .loop-test .left)
+returns-2 : tie.Need-returns-2
+returns-2 c = c .masks-of2 .ensures ∙ byte-rest _ _ _ _ _ (omega (arith, c .before .if1 .left)) (omega (arith, c .before .before .before .pre))
 
 pub byte-of-spec : {M : Type 1} → statement M
 byte-of-spec =
     tie.close
-    (tie.spec
-    Inv-loop
-    μ-loop
-    loop-holds
-    mul-x
-    add-x
-    in-plane-requires
-    mask-of-requires
-    add-byte
-    add-t
-    loop-less
-    loop-again
-    returns)
+    (tie.spec mul-pixels sub-pixels masks-of-requires returns masks-of-requires-2 returns-2)
