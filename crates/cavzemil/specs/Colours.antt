@@ -1,0 +1,77 @@
+-- What the calls on colours answer, and the primaries as they are passed.
+-- Assumes nothing: these are definitions.
+use Prim.Native.Nat.{ℕ, _+_, _*_}
+use mathlib.Core.Bool.{cond}
+use mathlib.Core.List.{List, [], _∷_}
+use lib.Dec.{eqb}
+use lib.Ieee.{Float, nan}
+use lib.ListN.{length, getD}
+use Rattle.arith.specs.Run.{upto}
+use Rattle.arith.specs.Refusal.{unless, orElse, answered}
+use Rattle.screen.specs.declared.Screen as Screens
+use Rattle.screen.specs.Screens.{refusalOf}
+use Rattle.separation.specs.declared.Separation.{Separation}
+use Rattle.separation.specs.declared.Inks.{Inks}
+use Rattle.quantiser.specs.Running.{count}
+use Rattle.predict.specs.declared.Xyz.{Xyz}
+use Rattle.predict.specs.Predicted.{plusZero}
+use Rattle.predict.specs.Paper.{Paper, predictRefusal, valued, ruled}
+use Rattle.cavzemil.specs.declared.screens.Screen.{Screen}
+use Rattle.cavzemil.specs.declared.colours.Counts.{Counts}
+use Rattle.cavzemil.specs.declared.colours.Prediction.{Prediction}
+use Rattle.cavzemil.specs.Separations.{separationOf, refusedFor}
+use Rattle.cavzemil.specs.Screens.{screenOf}
+
+-- ---- `cavzemil_counts_of`: 100, then 1 to 4
+
+-- the counts of the eight colorants, given the refusal: "any other returned numbers are 0"
+unfoldable pub countsGiven : ℕ → Screens.Screen → Separation → Inks → Counts
+countsGiven refusal s sep inks = record { refusal = refusal; of = upto (λ j. answered refusal (count s sep inks j)) 8 }
+
+abbrev pub countsAnswer : Screen → ℕ → Inks → Counts
+countsAnswer s separation inks = countsGiven (refusedFor separation (refusalOf (screenOf s))) (screenOf s) (separationOf separation) inks
+
+-- ---- `cavzemil_predict`
+
+-- "24 values, X Y Z a colorant": those of colorant j. The NaNs stand for values that no call has.
+abbrev pub primaryIn : List Float → ℕ → Xyz
+primaryIn values j = record { x = getD values (3 * j) nan; y = getD values (3 * j + 1) nan; z = getD values (3 * j + 2) nan }
+
+unfoldable pub primariesIn : List Float → List Xyz
+primariesIn values =
+    primaryIn values 0
+    ∷ primaryIn values 1
+    ∷ primaryIn values 2
+    ∷ primaryIn values 3
+    ∷ primaryIn values 4
+    ∷ primaryIn values 5
+    ∷ primaryIn values 6
+    ∷ primaryIn values 7
+    ∷ []
+
+-- the refusal of so many values: "another length is 6, after 1 to 4 and before 11"
+unfoldable pub valuesRefusal : Screens.Screen → List Float → ℕ
+valuesRefusal s values = orElse (refusalOf s) (unless (eqb (length values) 24) 6 (predictRefusal s (primariesIn values)))
+
+-- an answer in the paper's numbers, field by field
+abbrev pub paperLaid : Paper → Prediction
+paperLaid p = record { refusal = p .refusal; colorant = p .colorant; x = p .x; y = p .y; z = p .z }
+
+-- a refusal, and the colorant that it carries, with no colour
+abbrev pub colourless : ℕ → ℕ → Prediction
+colourless refusal colorant = record { refusal = refusal; colorant = colorant; x = plusZero; y = plusZero; z = plusZero }
+
+-- the colour, given the refusal: "any other returned numbers are 0 (11 carries its colorant)"
+unfoldable pub predictionGiven : ℕ → Screens.Screen → Separation → Inks → List Xyz → Prediction
+predictionGiven refusal s sep inks primaries =
+    record {
+      refusal = refusal;
+      colorant = cond (eqb refusal 11) (ruled s sep inks primaries .colorant) 0;
+      x = valued refusal (ruled s sep inks primaries .x);
+      y = valued refusal (ruled s sep inks primaries .y);
+      z = valued refusal (ruled s sep inks primaries .z);
+    }
+
+abbrev pub predictAnswer : Screen → ℕ → Inks → List Float → Prediction
+predictAnswer s separation inks values =
+    predictionGiven (refusedFor separation (valuesRefusal (screenOf s) values)) (screenOf s) (separationOf separation) inks (primariesIn values)

@@ -1,0 +1,5 @@
+pub mod Separations
+pub mod Screens
+pub mod Windows
+pub mod Colours
+pub mod Marks

@@ -1,0 +1,30 @@
+//! A plain second implementation of Cavzemil's rules.
+//!
+//! Each module follows one section of document 01, sentence by sentence and without any
+//! haste: a reader compares the two side by side. It shares no line with the proved library, which is
+//! compared with it and whose speed is measured against it.
+//!
+//! Every call of the C interface is here under its own name, in Rust's types but with the same numbers:
+//! an answer holds its refusal, 0 where there is none, and a separation is handed over as a number.
+
+mod brick;
+mod counts_program;
+mod plates;
+mod predict;
+mod quantise;
+pub mod random;
+mod render;
+mod screen;
+mod separation;
+
+pub use brick::{brick_of, fill_brick, Brick};
+pub use counts_program::counts_program;
+pub use plates::{pack, unpack};
+pub use predict::{predict, Prediction};
+pub use quantise::{cells_of_subscreen, counts_of, running_counts, subscreen_of, Counts};
+pub use render::{cell_at, render, render_brick, Cell, Rendering, Window};
+pub use screen::{phase, phase_at, screen_refusal, Place, Screen};
+pub use separation::{scale, weights, Inks, Separation};
+
+/// The refusal of a separation that is neither 0 (Demichel) nor 1 (Kueppers), tested before all else.
+pub const NO_SUCH_SEPARATION: u32 = 100;

@@ -1,0 +1,75 @@
+//! Screen and phase.
+
+/// A screen is five whole numbers: the slope a/b, the cell count N, the number of subscreens K and the
+/// offset g.
+#[derive(Clone, Copy, Debug, PartialEq, Eq)]
+pub struct Screen {
+    pub a: u32,
+    pub b: u32,
+    pub n: u32,
+    pub k: u32,
+    pub g: u32,
+}
+
+/// The answer for one place of the sheet: a refusal, or the phase there.
+#[derive(Clone, Copy, Debug, Default, PartialEq, Eq)]
+pub struct Place {
+    pub refusal: u32,
+    pub phase: u32,
+}
+
+/// The columns, and the rows, of the sheet: 0 to 65,535.
+pub(crate) const SHEET: u64 = 65_536;
+
+/// Whether some number above 1 divides both a and b.
+fn common_divisor_above_one(a: u32, b: u32) -> bool {
+    (2..=a).any(|divisor| a.is_multiple_of(divisor) && b.is_multiple_of(divisor))
+}
+
+/// Whether 1 ≤ a < b ≤ 64, a and b without a common divisor above 1.
+fn slope_admitted(a: u32, b: u32) -> bool {
+    1 <= a && a < b && b <= 64 && !common_divisor_above_one(a, b)
+}
+
+/// The lowest of the refusals 1 to 4 that applies to a screen, or 0.
+pub fn screen_refusal(s: Screen) -> u32 {
+    if !slope_admitted(s.a, s.b) {
+        1
+    } else if s.n < 1 || s.n > 4096 {
+        2
+    } else if s.k < 1 || s.k > 16 || s.k > s.n {
+        3
+    } else if s.g >= s.n {
+        4
+    } else {
+        0
+    }
+}
+
+/// The phase of (x, y): the remainder, 0 to N − 1, of a × x − b × y − g by N.
+pub fn phase(s: Screen, x: u32, y: u32) -> u32 {
+    let along = i64::from(s.a) * i64::from(x);
+    let across = i64::from(s.b) * i64::from(y);
+    let value = along - across - i64::from(s.g);
+    value.rem_euclid(i64::from(s.n)) as u32
+}
+
+/// The lowest refusal of a lone place, which is a 1 by 1 window.
+pub(crate) fn place_refusal(s: Screen, x: u32, y: u32) -> u32 {
+    let refusal = screen_refusal(s);
+    if refusal != 0 {
+        refusal
+    } else if u64::from(x) + 1 > SHEET || u64::from(y) + 1 > SHEET {
+        5
+    } else {
+        0
+    }
+}
+
+/// The phase of (x, y), or why it is refused.
+pub fn phase_at(s: Screen, x: u32, y: u32) -> Place {
+    match place_refusal(s, x, y) {
+        0 => Place { refusal: 0, phase: phase(s, x, y) },
+        refusal => Place { refusal, phase: 0 },
+    }
+}

@@ -1,0 +1,12 @@
+//! What the paper promises of any implementation. The calls are those of the module `subject` of the
+//! test that includes this one, so that the plain and the compiled library stand the same test.
+
+pub mod draw;
+mod finished_windows;
+mod marks;
+
+/// The number of Demichel's separation.
+pub const DEMICHEL: u32 = 0;
+
+/// The number of Kueppers's separation.
+pub const KUEPPERS: u32 = 1;

@@ -1,0 +1,149 @@
+//! Cells a second of the compiled library: both renderers on flat, gradient and noisy images, packing and
+//! unpacking; beside each the plain second implementation and a copy of the same input bytes, measured in
+//! the same run. Run by `cargo run --release --features bench --bin bench`.
+
+use cavzemil::{pack, unpack, Screen, Separation, Window};
+use cavzemil_plain as plain;
+use cavzemil_plain::random::Random;
+use std::hint::black_box;
+use std::time::Instant;
+
+/// The columns, and the rows, of every image.
+const SIDE: u32 = 4096;
+
+/// The cells of every image.
+const CELLS: usize = (SIDE * SIDE) as usize;
+
+/// Repeats of the library's calls, of the plain ones, and of copies.
+const REPEATS: u32 = 3;
+const PLAIN_REPEATS: u32 = 2;
+const COPY_REPEATS: u32 = 10;
+
+/// The screen, as both implementations take it.
+const SCREEN: Screen = Screen { a: 4, b: 7, n: 105, k: 2, g: 0 };
+const PLAIN_SCREEN: plain::Screen = plain::Screen { a: 4, b: 7, n: 105, k: 2, g: 0 };
+
+/// The window, as both implementations take it.
+const WINDOW: Window = Window { x: 0, y: 0, columns: SIDE, rows: SIDE };
+const PLAIN_WINDOW: plain::Window = plain::Window { x: 0, y: 0, columns: SIDE, rows: SIDE };
+
+/// An image's name and its ink values.
+type Image = (&'static str, Vec<u8>);
+
+/// The three images.
+fn images() -> [Image; 3] {
+    let mut random = Random::new(7);
+    let place = |byte: usize| (byte / 3 % SIDE as usize, byte / 3 / SIDE as usize, byte % 3);
+    let gradient = |byte| match place(byte) {
+        (column, _, 0) => (column / 16) as u8,
+        (_, row, 1) => (row / 16) as u8,
+        (column, row, _) => 255 - ((column + row) / 32) as u8,
+    };
+    [
+        ("flat", [128, 128, 0].repeat(CELLS)),
+        ("gradient", (0..3 * CELLS).map(gradient).collect()),
+        ("noisy", (0..3 * CELLS).map(|_| random.byte()).collect()),
+    ]
+}
+
+/// Cells a second at the best of some repeats.
+fn speed(repeats: u32, mut call: impl FnMut()) -> f64 {
+    let mut best = f64::INFINITY;
+    for _ in 0..repeats {
+        let start = Instant::now();
+        call();
+        best = best.min(start.elapsed().as_secs_f64());
+    }
+    CELLS as f64 / best
+}
+
+/// Cells a second of copying these bytes, which belong to all cells together.
+fn copy_speed(bytes: &[u8]) -> f64 {
+    let mut copy = vec![1; bytes.len()];
+    speed(COPY_REPEATS, || black_box(&mut copy).copy_from_slice(black_box(bytes)))
+}
+
+/// Prints a row of the table: millions of cells a second, and how many times as fast the library is.
+fn print_row(call: &str, library: f64, plain: f64, copy: f64) {
+    let millions = |speed: f64| speed / 1e6;
+    println!(
+        "{call:<34} {:>9.2} {:>9.2} {:>9.2} {:>9.2} {:>9.4}",
+        millions(library),
+        millions(plain),
+        millions(copy),
+        library / plain,
+        library / copy
+    );
+}
+
+/// Measures the renderer that works phases out.
+fn measure_render(separation: Separation, (name, input): &Image) {
+    let (mut cells, mut plain_cells) = (vec![8; CELLS], vec![8; CELLS]);
+    let library = speed(REPEATS, || {
+        screened(SCREEN.render(separation, WINDOW, input, &mut cells));
+    });
+    let plain = speed(PLAIN_REPEATS, || {
+        black_box(plain::render(PLAIN_SCREEN, separation.number(), PLAIN_WINDOW, input, &mut plain_cells));
+    });
+    assert!(cells == plain_cells, "both implementations render alike");
+    print_row(&format!("render, {separation:?}, {name}"), library, plain, copy_speed(input));
+}
+
+/// Measures the renderer that reads phases from a brick buffer.
+fn measure_render_brick(separation: Separation, (name, input): &Image) {
+    let (mut cells, mut plain_cells) = (vec![8; CELLS], vec![8; CELLS]);
+    let mut brick = vec![0; SCREEN.n as usize];
+    screened(SCREEN.fill_brick(&mut brick));
+    let library = speed(REPEATS, || {
+        screened(SCREEN.render_brick(separation, WINDOW, input, &brick, &mut cells));
+    });
+    let plain = speed(PLAIN_REPEATS, || {
+        let number = separation.number();
+        black_box(plain::render_brick(PLAIN_SCREEN, number, PLAIN_WINDOW, input, &brick, &mut plain_cells));
+    });
+    assert!(cells == plain_cells, "both implementations render alike");
+    print_row(&format!("render_brick, {separation:?}, {name}"), library, plain, copy_speed(input));
+}
+
+/// Measures packing and unpacking of an image's cells.
+fn measure_plates((name, input): &Image) {
+    let mut cells = vec![8; CELLS];
+    screened(SCREEN.render(Separation::Demichel, WINDOW, input, &mut cells));
+    let mut planes = vec![0; CELLS];
+    let library = speed(REPEATS, || screened(pack(SIDE, SIDE, &cells, &mut planes)));
+    let mut plain_planes = vec![0; CELLS];
+    let plain = speed(PLAIN_REPEATS, || {
+        black_box(plain::pack(SIDE, SIDE, &cells, &mut plain_planes));
+    });
+    assert!(planes == plain_planes, "both implementations pack alike");
+    print_row(&format!("pack, {name}"), library, plain, copy_speed(&cells));
+
+    let mut unpacked = vec![8; CELLS];
+    let library = speed(REPEATS, || screened(unpack(SIDE, SIDE, &planes, &mut unpacked)));
+    let plain = speed(PLAIN_REPEATS, || {
+        black_box(plain::unpack(SIDE, SIDE, &planes, &mut plain_planes));
+    });
+    assert!(unpacked == cells && plain_planes == cells, "both implementations unpack alike");
+    print_row(&format!("unpack, {name}"), library, plain, copy_speed(&planes));
+}
+
+/// The answer of a call that is not refused.
+fn screened<T>(answer: Result<T, cavzemil::Refusal>) -> T {
+    answer.expect("the benchmark's calls are not refused")
+}
+
+/// Prints the whole table.
+fn main() {
+    println!(
+        "{SIDE} by {SIDE} cells, best of {REPEATS} (plain: of {PLAIN_REPEATS}); millions of cells a second"
+    );
+    println!("{:<34} {:>9} {:>9} {:>9} {:>9} {:>9}", "call", "library", "plain", "copy", "× plain", "× copy");
+    let images = images();
+    for separation in [Separation::Demichel, Separation::Kueppers] {
+        for image in &images {
+            measure_render(separation, image);
+            measure_render_brick(separation, image);
+        }
+    }
+    images.iter().for_each(measure_plates);
+}

@@ -1,0 +1,162 @@
+//! The C interface, as `include/cavzemil.h` declares it.
+//!
+//! Structs pass by value, and a slice is a pointer and then a length. Refusal 0 means 'not refused'; a
+//! separation is 0 for Demichel and 1 for Kueppers, and any other number is refused as 100, before all
+//! else. Callers in Rust are better served by the safe interface at the crate's root.
+
+/// A screen: the slope a/b with 1 ≤ a < b ≤ 64 and no common divisor above 1, the cell count N from 1 to
+/// 4,096, the number of subscreens K from 1 to 16 and at most N, and the offset g below N.
+#[repr(C)]
+#[derive(Clone, Copy, Debug, PartialEq, Eq, Hash)]
+pub struct Screen {
+    /// The slope's rise.
+    pub a: u32,
+    /// The slope's run.
+    pub b: u32,
+    /// The cell count N.
+    pub n: u32,
+    /// The number of subscreens K.
+    pub k: u32,
+    /// The offset.
+    pub g: u32,
+}
+
+/// A window of the sheet: its corner, and its columns and rows, which may be 0. The sheet has 65,536
+/// columns, from the left, and as many rows, from the top.
+#[repr(C)]
+#[derive(Clone, Copy, Debug, PartialEq, Eq, Hash)]
+pub struct Window {
+    /// The first column.
+    pub x: u32,
+    /// The first row.
+    pub y: u32,
+    /// How many columns.
+    pub columns: u32,
+    /// How many rows.
+    pub rows: u32,
+}
+
+/// The answer of [`cavzemil_phase_at`].
+#[repr(C)]
+#[derive(Clone, Copy, Debug, PartialEq, Eq)]
+pub struct Place {
+    pub refusal: u32,
+    pub phase: u32,
+}
+
+/// The answer of [`cavzemil_brick_of`]: L, H and S.
+#[repr(C)]
+#[derive(Clone, Copy, Debug, PartialEq, Eq)]
+pub struct BrickSizes {
+    pub refusal: u32,
+    pub columns: u32,
+    pub rows: u32,
+    pub shift: u32,
+}
+
+/// The answer of [`cavzemil_counts_of`].
+#[repr(C)]
+#[derive(Clone, Copy, Debug, PartialEq, Eq)]
+pub struct Counts {
+    pub refusal: u32,
+    pub of: [u32; 8],
+}
+
+/// The answer of [`cavzemil_cell_at`].
+#[repr(C)]
+#[derive(Clone, Copy, Debug, PartialEq, Eq)]
+pub struct Cell {
+    pub refusal: u32,
+    pub colorant: u32,
+}
+
+/// The answer of both renderers.
+#[repr(C)]
+#[derive(Clone, Copy, Debug, PartialEq, Eq)]
+pub struct Rendering {
+    pub refusal: u32,
+    pub tallies: [u64; 8],
+}
+
+/// The answer of [`cavzemil_predict`]; refusal 11 carries its colorant.
+#[repr(C)]
+#[derive(Clone, Copy, Debug, PartialEq)]
+pub struct Prediction {
+    pub refusal: u32,
+    pub colorant: u32,
+    pub x: f64,
+    pub y: f64,
+    pub z: f64,
+}
+
+extern "C" {
+    /// The phase of a place.
+    pub fn cavzemil_phase_at(s: Screen, x: u32, y: u32) -> Place;
+
+    /// The brick's columns, rows and shift.
+    pub fn cavzemil_brick_of(s: Screen) -> BrickSizes;
+
+    /// Fills the first N places of a brick buffer.
+    pub fn cavzemil_fill_brick(s: Screen, brick: *mut u16, brick_len: usize) -> u32;
+
+    /// The counts of the eight colorants.
+    pub fn cavzemil_counts_of(s: Screen, separation: u32, c: u8, m: u8, y: u8) -> Counts;
+
+    /// The colorant of a place.
+    pub fn cavzemil_cell_at(s: Screen, separation: u32, x: u32, y: u32, c: u8, m: u8, yellow: u8) -> Cell;
+
+    /// Renders a window, phases worked out.
+    pub fn cavzemil_render(
+        s: Screen,
+        separation: u32,
+        w: Window,
+        input: *const u8,
+        input_len: usize,
+        out: *mut u8,
+        out_len: usize,
+    ) -> Rendering;
+
+    /// Renders a window, phases read from a brick buffer.
+    pub fn cavzemil_render_brick(
+        s: Screen,
+        separation: u32,
+        w: Window,
+        input: *const u8,
+        input_len: usize,
+        brick: *const u16,
+        brick_len: usize,
+        out: *mut u8,
+        out_len: usize,
+    ) -> Rendering;
+
+    /// Packs cells into eight planes.
+    pub fn cavzemil_pack(
+        columns: u32,
+        rows: u32,
+        cells: *const u8,
+        cells_len: usize,
+        planes: *mut u8,
+        planes_len: usize,
+    ) -> u32;
+
+    /// Unpacks eight planes into cells.
+    pub fn cavzemil_unpack(
+        columns: u32,
+        rows: u32,
+        planes: *const u8,
+        planes_len: usize,
+        cells: *mut u8,
+        cells_len: usize,
+    ) -> u32;
+
+    /// The predicted colour from 24 values, X, Y, Z a colorant.
+    pub fn cavzemil_predict(
+        s: Screen,
+        separation: u32,
+        c: u8,
+        m: u8,
+        y: u8,
+        primaries: *const f64,
+        primaries_len: usize,
+    ) -> Prediction;
+}

@@ -1,0 +1,107 @@
+//! Refusals.
+
+use crate::colour::Colorant;
+use std::error::Error;
+use std::fmt;
+
+/// Why a call is refused; the lowest number that applies is answered.
+///
+/// The paper's number 10 is the counts program's alone, and no call here can meet it.
+///
+/// ```
+/// use cavzemil::{Refusal, Screen};
+///
+/// let screen = Screen { a: 4, b: 8, n: 70, k: 1, g: 0 };
+/// let refusal = screen.brick().unwrap_err();
+/// assert_eq!(refusal, Refusal::Slope);
+/// assert_eq!(refusal.number(), 1);
+/// assert_eq!(
+///     refusal.to_string(),
+///     "the slope a/b needs 1 ≤ a < b ≤ 64 and no common divisor above 1 (refusal 1)"
+/// );
+/// ```
+#[derive(Clone, Copy, Debug, PartialEq, Eq, Hash)]
+pub enum Refusal {
+    /// 1: the slope isn't admitted.
+    Slope,
+    /// 2: the cell count N isn't 1 to 4,096.
+    CellCount,
+    /// 3: the number of subscreens K isn't 1 to 16, or is above N.
+    Subscreens,
+    /// 4: the offset g isn't below N.
+    Offset,
+    /// 5: the window reaches beyond the sheet.
+    OffSheet,
+    /// 6: the input's length isn't the stated one.
+    InputLength,
+    /// 7: the output's length isn't the stated one.
+    OutputLength,
+    /// 8: the brick buffer is below N places or, when rendering, doesn't hold the phases due there.
+    Brick,
+    /// 9: a cell above 7, a pixel that isn't in exactly one plane, or padding that is set.
+    Plates,
+    /// 11: a primary's value isn't 0 to 200; this is the first such colorant.
+    Primary(Colorant),
+}
+
+impl Refusal {
+    /// The paper's number.
+    pub fn number(self) -> u32 {
+        match self {
+            Refusal::Slope => 1,
+            Refusal::CellCount => 2,
+            Refusal::Subscreens => 3,
+            Refusal::Offset => 4,
+            Refusal::OffSheet => 5,
+            Refusal::InputLength => 6,
+            Refusal::OutputLength => 7,
+            Refusal::Brick => 8,
+            Refusal::Plates => 9,
+            Refusal::Primary(_) => 11,
+        }
+    }
+
+    /// The answer that a refusal number stands in front of; refusal 11 reads its colorant.
+    ///
+    /// # Panics
+    /// Where the number is none that these calls can answer: then the archive is not Cavzemil's.
+    pub(crate) fn check(number: u32, colorant: u32) -> Result<(), Refusal> {
+        Err(match number {
+            0 => return Ok(()),
+            1 => Refusal::Slope,
+            2 => Refusal::CellCount,
+            3 => Refusal::Subscreens,
+            4 => Refusal::Offset,
+            5 => Refusal::OffSheet,
+            6 => Refusal::InputLength,
+            7 => Refusal::OutputLength,
+            8 => Refusal::Brick,
+            9 => Refusal::Plates,
+            11 => Refusal::Primary(Colorant::from_answer(colorant)),
+            _ => panic!("the library answered {number}, which is no refusal of this call"),
+        })
+    }
+}
+
+impl fmt::Display for Refusal {
+    /// Says what is wrong, with the paper's number.
+    fn fmt(&self, formatter: &mut fmt::Formatter) -> fmt::Result {
+        let wrong = match self {
+            Refusal::Slope => "the slope a/b needs 1 ≤ a < b ≤ 64 and no common divisor above 1",
+            Refusal::CellCount => "the cell count N must be 1 to 4,096",
+            Refusal::Subscreens => "the number of subscreens K must be 1 to 16 and at most N",
+            Refusal::Offset => "the offset g must be below N",
+            Refusal::OffSheet => "the window reaches beyond the sheet's 65,536 columns or rows",
+            Refusal::InputLength => "the input's length does not fit the columns and rows",
+            Refusal::OutputLength => "the output's length does not fit the columns and rows",
+            Refusal::Brick => "the brick buffer is below N places or holds a wrong phase",
+            Refusal::Plates => "a cell is above 7, a pixel is not in exactly one plane, or padding is set",
+            Refusal::Primary(colorant) => {
+                return write!(formatter, "a value of the {colorant} primary is not 0 to 200 (refusal 11)");
+            }
+        };
+        write!(formatter, "{wrong} (refusal {})", self.number())
+    }
+}
+
+impl Error for Refusal {}

@@ -1,0 +1,218 @@
+//! What a screen can be asked. Every call tests the screen first, by refusals 1 to 4.
+
+use crate::colour::{Colorant, Inks, Separation, Xyz};
+use crate::ffi::{self, Rendering, Screen, Window};
+use crate::refusal::Refusal;
+
+/// A brick, which tiles the sheet: the phase at (x + shift, y + rows) is that at (x, y), and a row repeats
+/// after `columns`.
+#[derive(Clone, Copy, Debug, PartialEq, Eq, Hash)]
+pub struct Brick {
+    /// L, the columns.
+    pub columns: u32,
+    /// H, the rows.
+    pub rows: u32,
+    /// S, the shift to the right from one course of bricks to the next.
+    pub shift: u32,
+}
+
+/// The tallies of a rendering that isn't refused.
+fn tallies(rendering: Rendering) -> Result<[u64; 8], Refusal> {
+    Refusal::check(rendering.refusal, 0)?;
+    Ok(rendering.tallies)
+}
+
+impl Screen {
+    /// The phase of column x and row y, 0 to N − 1. Refused as 5 beyond the sheet.
+    ///
+    /// ```
+    /// use cavzemil::{Refusal, Screen};
+    ///
+    /// let screen = Screen { a: 4, b: 7, n: 105, k: 1, g: 0 };
+    /// assert_eq!(screen.phase_at(0, 1), Ok(98));
+    /// assert_eq!(screen.phase_at(3, 2), Ok(103));
+    /// assert_eq!(screen.phase_at(65_536, 0), Err(Refusal::OffSheet));
+    /// ```
+    pub fn phase_at(self, x: u32, y: u32) -> Result<u32, Refusal> {
+        // SAFETY: the call takes no memory.
+        let place = unsafe { ffi::cavzemil_phase_at(self, x, y) };
+        Refusal::check(place.refusal, 0)?;
+        Ok(place.phase)
+    }
+
+    /// The brick's sizes; `columns` × `rows` is N.
+    ///
+    /// ```
+    /// use cavzemil::{Brick, Screen};
+    ///
+    /// let screen = Screen { a: 4, b: 7, n: 70, k: 1, g: 0 };
+    /// assert_eq!(screen.brick(), Ok(Brick { columns: 35, rows: 2, shift: 21 }));
+    /// ```
+    pub fn brick(self) -> Result<Brick, Refusal> {
+        // SAFETY: the call takes no memory.
+        let brick = unsafe { ffi::cavzemil_brick_of(self) };
+        Refusal::check(brick.refusal, 0)?;
+        Ok(Brick { columns: brick.columns, rows: brick.rows, shift: brick.shift })
+    }
+
+    /// Fills the first N places of a brick buffer: place v × columns + u has the phase of (u, v). Later
+    /// places stay as they are. Refused as 8 below N places.
+    ///
+    /// ```
+    /// use cavzemil::{Refusal, Screen};
+    ///
+    /// let screen = Screen { a: 2, b: 3, n: 6, k: 1, g: 1 };
+    /// let mut brick = [99; 7];
+    /// screen.fill_brick(&mut brick)?;
+    /// assert_eq!(brick, [5, 1, 3, 2, 4, 0, 99]);
+    /// assert_eq!(screen.fill_brick(&mut brick[..5]), Err(Refusal::Brick));
+    /// # Ok::<(), cavzemil::Refusal>(())
+    /// ```
+    pub fn fill_brick(self, brick: &mut [u16]) -> Result<(), Refusal> {
+        // SAFETY: the pointer comes with the length of its own slice.
+        let refusal = unsafe { ffi::cavzemil_fill_brick(self, brick.as_mut_ptr(), brick.len()) };
+        Refusal::check(refusal, 0)
+    }
+
+    /// How many of the N cells of a brick each colorant gets; the counts add up to N.
+    ///
+    /// ```
+    /// use cavzemil::{Inks, Screen, Separation};
+    ///
+    /// let screen = Screen { a: 4, b: 7, n: 70, k: 1, g: 0 };
+    /// let counts = screen.counts(Separation::Kueppers, Inks { c: 51, m: 102, y: 204 });
+    /// assert_eq!(counts, Ok([0, 0, 28, 0, 0, 14, 14, 14]));
+    /// ```
+    pub fn counts(self, separation: Separation, inks: Inks) -> Result<[u32; 8], Refusal> {
+        // SAFETY: the call takes no memory.
+        let counts = unsafe { ffi::cavzemil_counts_of(self, separation.number(), inks.c, inks.m, inks.y) };
+        Refusal::check(counts.refusal, 0)?;
+        Ok(counts.of)
+    }
+
+    /// The colorant of column x and row y where the inks have these values. Refused as 5 beyond the sheet.
+    ///
+    /// ```
+    /// use cavzemil::{Colorant, Inks, Screen, Separation};
+    ///
+    /// let screen = Screen { a: 1, b: 2, n: 1, k: 1, g: 0 };
+    /// let colorant = |c| screen.cell_at(Separation::Kueppers, 0, 0, Inks { c, m: 0, y: 0 });
+    /// assert_eq!(colorant(128), Ok(Colorant::Cyan));
+    /// assert_eq!(colorant(127), Ok(Colorant::White));
+    /// ```
+    pub fn cell_at(self, separation: Separation, x: u32, y: u32, inks: Inks) -> Result<Colorant, Refusal> {
+        // SAFETY: the call takes no memory.
+        let cell = unsafe { ffi::cavzemil_cell_at(self, separation.number(), x, y, inks.c, inks.m, inks.y) };
+        Refusal::check(cell.refusal, 0)?;
+        Ok(Colorant::from_answer(cell.colorant))
+    }
+
+    /// Renders a window, phases worked out, and answers how many cells it wrote in each colorant.
+    ///
+    /// The input holds c, m, y for each pixel, row by row; the output gets a colorant number for each.
+    /// Refusals: 5 where the window reaches beyond the sheet, 6 and 7 for the lengths.
+    ///
+    /// ```
+    /// use cavzemil::{Refusal, Screen, Separation, Window};
+    ///
+    /// let screen = Screen { a: 4, b: 7, n: 105, k: 2, g: 0 };
+    /// let last = Window { x: 65_535, y: 0, columns: 1, rows: 1 };
+    /// let mut cell = [200];
+    /// let tallies = screen.render(Separation::Demichel, last, &[255, 255, 0], &mut cell)?;
+    /// assert_eq!((cell, tallies), ([3], [0, 0, 0, 1, 0, 0, 0, 0]));
+    ///
+    /// let beyond = Window { columns: 2, ..last };
+    /// let refused = screen.render(Separation::Demichel, beyond, &[0; 6], &mut [0; 2]);
+    /// assert_eq!(refused, Err(Refusal::OffSheet));
+    /// # Ok::<(), cavzemil::Refusal>(())
+    /// ```
+    pub fn render(
+        self,
+        separation: Separation,
+        window: Window,
+        input: &[u8],
+        out: &mut [u8],
+    ) -> Result<[u64; 8], Refusal> {
+        // SAFETY: both pointers come with the lengths of their own slices.
+        tallies(unsafe {
+            ffi::cavzemil_render(
+                self,
+                separation.number(),
+                window,
+                input.as_ptr(),
+                input.len(),
+                out.as_mut_ptr(),
+                out.len(),
+            )
+        })
+    }
+
+    /// Renders a window like [`Screen::render`], phases read from a brick buffer that
+    /// [`Screen::fill_brick`] filled. Refused also as 8, where the buffer is below N places or one of its
+    /// first N numbers isn't the phase due there.
+    ///
+    /// ```
+    /// use cavzemil::{Screen, Separation, Window};
+    ///
+    /// let screen = Screen { a: 4, b: 7, n: 70, k: 3, g: 5 };
+    /// let window = Window { x: 11, y: 3, columns: 4, rows: 2 };
+    /// let input = [51, 102, 204].repeat(8);
+    /// let mut brick = [0; 70];
+    /// screen.fill_brick(&mut brick)?;
+    /// let mut read = [0; 8];
+    /// let tallies = screen.render_brick(Separation::Kueppers, window, &input, &brick, &mut read)?;
+    ///
+    /// let mut worked_out = [0; 8];
+    /// assert_eq!(screen.render(Separation::Kueppers, window, &input, &mut worked_out), Ok(tallies));
+    /// assert_eq!(read, worked_out);
+    /// # Ok::<(), cavzemil::Refusal>(())
+    /// ```
+    pub fn render_brick(
+        self,
+        separation: Separation,
+        window: Window,
+        input: &[u8],
+        brick: &[u16],
+        out: &mut [u8],
+    ) -> Result<[u64; 8], Refusal> {
+        // SAFETY: the three pointers come with the lengths of their own slices.
+        tallies(unsafe {
+            ffi::cavzemil_render_brick(
+                self,
+                separation.number(),
+                window,
+                input.as_ptr(),
+                input.len(),
+                brick.as_ptr(),
+                brick.len(),
+                out.as_mut_ptr(),
+                out.len(),
+            )
+        })
+    }
+
+    /// The colour of a patch: the mean of the eight primaries, weighed by the counts. Refused as 11, which
+    /// carries its colorant, where a primary's value isn't 0 to 200.
+    ///
+    /// ```
+    /// use cavzemil::{Colorant, Inks, Refusal, Screen, Separation, Xyz};
+    ///
+    /// let screen = Screen { a: 4, b: 7, n: 70, k: 1, g: 0 };
+    /// let mut primaries = [Xyz { x: 50.0, y: 60.0, z: 70.0 }; 8];
+    /// let inks = Inks { c: 0, m: 255, y: 0 };
+    /// primaries[1] = Xyz { x: 30.0, y: 20.0, z: 40.0 };
+    /// assert_eq!(screen.predict(Separation::Demichel, inks, &primaries), Ok(primaries[1]));
+    ///
+    /// primaries[1].x = 200.5;
+    /// let refused = screen.predict(Separation::Demichel, inks, &primaries);
+    /// assert_eq!(refused, Err(Refusal::Primary(Colorant::Magenta)));
+    /// ```
+    pub fn predict(self, separation: Separation, inks: Inks, primaries: &[Xyz; 8]) -> Result<Xyz, Refusal> {
+        let values = primaries.as_ptr().cast();
+        // SAFETY: eight records of three f64 fields each, laid out as in C, are 24 values in a row.
+        let prediction =
+            unsafe { ffi::cavzemil_predict(self, separation.number(), inks.c, inks.m, inks.y, values, 24) };
+        Refusal::check(prediction.refusal, prediction.colorant)?;
+        Ok(Xyz { x: prediction.x, y: prediction.y, z: prediction.z })
+    }
+}

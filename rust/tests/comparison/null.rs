@@ -1,0 +1,53 @@
+//! A null pointer with length 0 is an empty slice.
+
+use crate::promises::{DEMICHEL, KUEPPERS};
+use crate::subject::{c_screen, c_window};
+use cavzemil::ffi;
+use cavzemil_plain::{Screen, Window};
+use std::ptr::{null, null_mut};
+
+/// A screen that is admitted.
+const SCREEN: Screen = Screen { a: 4, b: 7, n: 70, k: 2, g: 3 };
+
+/// Renders a window from and to null pointers by both renderers, the second with a null brick.
+fn refusals(screen: Screen, window: Window) -> (u32, u32) {
+    let (s, w) = (c_screen(screen), c_window(window));
+    let worked = unsafe { ffi::cavzemil_render(s, DEMICHEL, w, null(), 0, null_mut(), 0) };
+    let read = unsafe { ffi::cavzemil_render_brick(s, KUEPPERS, w, null(), 0, null(), 0, null_mut(), 0) };
+    assert_eq!((worked.tallies, read.tallies), ([0; 8], [0; 8]));
+    (worked.refusal, read.refusal)
+}
+
+#[test]
+fn empty_windows_take_null_pointers() {
+    let empty = Window { x: 65_536, y: 0, columns: 0, rows: 9 };
+    assert_eq!(refusals(SCREEN, empty), (0, 8));
+    assert_eq!(refusals(SCREEN, Window { columns: 1, ..empty }), (5, 5));
+    assert_eq!(refusals(SCREEN, Window { x: 0, columns: 1, ..empty }), (6, 6));
+    assert_eq!(refusals(Screen { k: 17, ..SCREEN }, empty), (3, 3));
+}
+
+#[test]
+fn empty_windows_take_a_true_brick() {
+    let mut brick = [0u16; 70];
+    let window = c_window(Window { x: 1, y: 2, columns: 3, rows: 0 });
+    let s = c_screen(SCREEN);
+    let (filled, read) = unsafe {
+        (
+            ffi::cavzemil_fill_brick(s, brick.as_mut_ptr(), 70),
+            ffi::cavzemil_render_brick(s, DEMICHEL, window, null(), 0, brick.as_ptr(), 70, null_mut(), 0),
+        )
+    };
+    assert_eq!((filled, read.refusal, read.tallies), (0, 0, [0; 8]));
+}
+
+#[test]
+fn bricks_plates_and_primaries_may_be_null() {
+    let s = c_screen(SCREEN);
+    assert_eq!(unsafe { ffi::cavzemil_fill_brick(s, null_mut(), 0) }, 8);
+    assert_eq!(unsafe { ffi::cavzemil_pack(0, 9, null(), 0, null_mut(), 0) }, 0);
+    assert_eq!(unsafe { ffi::cavzemil_unpack(9, 0, null(), 0, null_mut(), 0) }, 0);
+    assert_eq!(unsafe { ffi::cavzemil_pack(1, 1, null(), 0, null_mut(), 0) }, 6);
+    assert_eq!(unsafe { ffi::cavzemil_unpack(65_537, 0, null(), 0, null_mut(), 0) }, 5);
+    assert_eq!(unsafe { ffi::cavzemil_predict(s, DEMICHEL, 1, 2, 3, null(), 0) }.refusal, 6);
+}
