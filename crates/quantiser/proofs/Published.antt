@@ -1,11 +1,13 @@
 -- The laws of specs/Laws.antt, proved.
 -- Assumes nothing.
+use mathlib.Core.Path.{sym}
 use Rattle.separation.proofs.Published.{weights-add-up}
-use Rattle.quantiser.specs.Laws.{RunningRises, RunningEnds, CountsAddUp, CountShare, CountsAnswered, ScaleLimit, SubscreensAddUp, SubscreenPlaces, PhasePlace, ColorantBelow, PhasesInSubscreen, SubscreenShare, PhasesInAll, ThresholdLaw, ThresholdWithin, ThresholdOnce, ThresholdListed, RankBelow, ColorantRank}
+use Rattle.quantiser.specs.Laws.{RunningRises, RunningEnds, CountsAddUp, CountShare, CountsAnswered, ScaleLimit, SubscreensAddUp, SubscreenPlaces, PhasePlace, ColorantBelow, PhasesInSubscreen, SubscreenShare, PhasesInAll, ThresholdLaw, ThresholdWithin, ThresholdOnce, ThresholdAnswered, ThresholdListed, RankBelow, ColorantRank}
 use Rattle.quantiser.proofs.LevelLaws as LevelLaws
 use Rattle.quantiser.proofs.RunningLaws as RunningLaws
 use Rattle.quantiser.proofs.SubscreenLaws as SubscreenLaws
 use Rattle.quantiser.proofs.ThresholdLaws as ThresholdLaws
+use Rattle.quantiser.proofs.PhaseSearch as PhaseSearch
 
 -- ---- running sums and counts
 
@@ -64,6 +66,9 @@ threshold-within = ThresholdLaws.threshold-within
 
 pub threshold-once : ThresholdOnce
 threshold-once = ThresholdLaws.threshold-once
+
+pub threshold-answered : ThresholdAnswered
+threshold-answered s ok p l = sym (PhaseSearch.threshold-whole s p ok l)
 
 pub threshold-listed : ThresholdListed
 threshold-listed = LevelLaws.thresholds-listed

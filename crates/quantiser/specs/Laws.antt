@@ -17,7 +17,7 @@ use Rattle.separation.specs.Weights.{weight, scaleOf}
 use Rattle.separation.specs.Laws.{InkValues}
 use Rattle.quantiser.specs.Running.{running, count, countsOf}
 use Rattle.quantiser.specs.Subscreens.{subscreenSize, subscreenStart, subscreenOf, distanceOf, fillUpTo, colorantAt, colorantOf, phasesIn, phasesOf}
-use Rattle.quantiser.specs.Leaves.{thresholdAt, thresholdOf, thresholdsIn, levelsOf, rank}
+use Rattle.quantiser.specs.Leaves.{thresholdAt, thresholdOf, thresholdFor, thresholdsIn, levelsOf, rank}
 
 -- a statement of every admitted screen, separation and ink values
 abbrev pub Always : (Screen → Separation → Inks → Type 0) → Type 0
@@ -111,6 +111,10 @@ ThresholdOnce =
     (s : Screen) → Admitted s → (t : ℕ) → 1 ≤ t → t ≤ s .n → sumBelow (s .n) (λ p. indicator (eqb (thresholdOf s p) t)) ≡ 1
 
 -- a table with the thresholds written to it is as long as before, and has each phase's at its number
+-- what `threshold` answers for a phase of an admitted screen
+abbrev pub ThresholdAnswered : Type 0
+ThresholdAnswered = (s : Screen) → Admitted s → (p : ℕ) → p < s .n → thresholdFor s p ≡ thresholdOf s p
+
 abbrev pub ThresholdListed : Type 0
 ThresholdListed =
     (s : Screen) → Admitted s → (table : List ℕ) → s .n ≤ length table

@@ -1,13 +1,13 @@
 // What a renderer needs for a cell, without a division: thresholds once a call, levels once a colour.
 ghost use mathlib.Core.Path.{_≡_};
 ghost use mathlib.Core.List.{_++_};
-ghost use Prim.Native.Nat.{ℕ, suc, _+_, _*_, _≤_};
+ghost use Prim.Native.Nat.{ℕ, suc, _+_, _*_, _≤_, _<_};
 ghost use lib.ListN.{length, getD, drop};
 ghost use Rattle.arith.specs.Sum.{sumBelow};
 ghost use Rattle.arith.specs.Run.{upto};
 ghost use Rattle.screen.specs.Screens.{Admitted};
 ghost use Rattle.screen.specs.Brick.{bufferRefusal};
-ghost use Rattle.quantiser.specs.Leaves.{levelsOf, thresholdOf, thresholdsIn, rank};
+ghost use Rattle.quantiser.specs.Leaves.{levelsOf, thresholdOf, thresholdFor, thresholdsIn, rank};
 use screen::Screen;
 use separation::Inks;
 use separation::Separation;
@@ -69,6 +69,38 @@ fn rank_phases(s: Screen, table: &mut [u16])
         }
         phase += 1;
     }
+}
+
+// The threshold of one phase, or 0 where the screen is refused or has no such phase.
+pub fn threshold(s: Screen, phase: u32) -> u32
+    ensures { λ r. ⌜ r ≡ thresholdFor s phase ⌝ }
+{
+    if screen::refusal(s) != 0 {
+        return 0;
+    }
+    if s.n <= phase {
+        return 0;
+    }
+    rank_phase(s, phase)
+}
+
+// The threshold of a phase, its subscreen being looked for from the first on.
+fn rank_phase(s: Screen, phase: u32) -> u32
+    requires { ⌜ Admitted s × (phase < s .n) ⌝ }
+    ensures { λ r. ⌜ r ≡ thresholdOf s phase ⌝ }
+{
+    let mut start = 0;
+    let mut subscreen = 0;
+    while subscreen < s.k {
+        let distance = phase - start;
+        let size = (s.n + subscreen) / s.k;
+        if distance < size {
+            return (distance + 1) * s.k - subscreen;
+        }
+        start += size;
+        subscreen += 1;
+    }
+    0
 }
 
 // The colorant of a cell: how many of the first seven levels its threshold, scaled as they are, is above.

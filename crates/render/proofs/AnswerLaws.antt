@@ -20,7 +20,7 @@ use Rattle.separation.specs.declared.Separation.{Separation}
 use Rattle.separation.specs.declared.Inks.{Inks}
 use Rattle.separation.specs.Weights.{scaleOf}
 use Rattle.separation.specs.Laws.{InkValues}
-use Rattle.quantiser.specs.Leaves.{levelsOf, thresholdOf, thresholdsIn, rank}
+use Rattle.quantiser.specs.Leaves.{levelsOf, thresholdsIn, rank}
 use Rattle.quantiser.proofs.Published.{threshold-listed, colorant-rank}
 use Rattle.render.specs.declared.Window.{Window}
 use Rattle.render.specs.declared.Rendering.{Rendering}
@@ -28,6 +28,7 @@ use Rattle.render.specs.declared.Cell.{Cell}
 use Rattle.render.specs.Windows.{area, inksAt, cellOf, windowCell, windowCells, talliesOf}
 use Rattle.render.specs.Answers.{windowRefusal, answerOf, rendering, rendered, loneCell}
 use Rattle.render.specs.Rows.{cellBy, cellIn, rowsBy, WindowInput}
+use Rattle.render.specs.Tables.{Prepared}
 use Rattle.render.proofs.RefusalLaws.{window-kept}
 
 -- ---- answers
@@ -77,22 +78,26 @@ module _ (s : Screen) (sep : Separation) (w : Window) (input : List ℕ) where
   unfolding windowCells
   cells-length = upto-length _ (area w)
 
-  module _ (ok : Admitted s) (bytes : (k : ℕ) → getD input k 0 ≤ 255) (table : List ℕ) (listed : (p : ℕ) → p < s .n → getD table p 0 ≡ thresholdOf s p)
+  module _ (ok : Admitted s) (bytes : (k : ℕ) → getD input k 0 ≤ 255) (memory table : List ℕ) (prepared : Prepared s (w .x) (w .y) (w .columns) (area w) memory table)
       (f : ℕ → ℕ → ℕ) (reads : (u v : ℕ) → f u v ≡ phase s (w .x + u) (w .y + v)) where
-    cell-is : (i : ℕ) → cellIn (s .n) sep table f input (w .columns) i ≡ windowCell s sep w input i
+    cell-is : (i : ℕ) → i < area w → cellIn (s .n) sep table f input (w .columns) i ≡ windowCell s sep w input i
     unfolding cellBy windowCell cellOf
-    cell-is i =
+    cell-is i h =
         let p : ℕ = phase s (w .x + i % w .columns) (w .y + i / w .columns) in
         let l : p < s .n = phase-below s ok _ _ in
         let values : InkValues (inksAt input i) = record { c-value = bytes _; m-value = bytes _; y-value = bytes _ } in
-        ap (λ (t : ℕ). rank (levelsOf (s .n) sep (inksAt input i)) (2 * scaleOf sep * t)) (ap (λ (z : ℕ). getD table z 0) (reads _ _) ∙ listed p l)
+        ap (λ (t : ℕ). rank (levelsOf (s .n) sep (inksAt input i)) (2 * scaleOf sep * t)) (ap (λ (z : ℕ). getD table z 0) (reads _ _) ∙ prepared .listed i h)
         ∙ colorant-rank s ok sep (inksAt input i) values p l
 
     pub cells-are : rowsBy (s .n) sep table f input (w .columns) (w .rows) ≡ windowCells s sep w input
     unfolding rowsBy windowCells
-    cells-are = upto-same _ _ (area w) (λ i l. cell-is i)
+    cells-are = upto-same _ _ (area w) cell-is
 
 -- ---- what the loops over rows ask
+
+some-columns : (s : Screen) (w : Window) (inputs outputs : ℕ) → windowRefusal s w inputs outputs ≡ 0 → (outputs ≡ 0 → ⊥) → 0 < w .columns
+some-columns s w inputs outputs e some =
+    pos-of-ne-zero (λ z. some (window-kept s w inputs outputs e .4 ∙ ap (λ (k : ℕ). k * w .rows) z ∙ zero-mul (w .rows)))
 
 pub window-input : (s : Screen) (w : Window) (table : List ℕ) (inputs outputs : ℕ) → windowRefusal s w inputs outputs ≡ 0 → (outputs ≡ 0 → ⊥) → s .n ≤ length table
     → WindowInput (s .n) table (w .x) (w .y) (w .columns) (w .rows) inputs outputs
@@ -103,19 +108,26 @@ window-input s w table inputs outputs e some room =
       some = limits .cells-above;
       few = limits .cells-limit;
       listed = room;
-      across = pos-of-ne-zero (λ z. some (kept .4 ∙ ap (λ (k : ℕ). k * w .rows) z ∙ zero-mul (w .rows)));
+      across = some-columns s w inputs outputs e some;
       wide = kept .1;
       high = kept .2;
       bytes = kept .3;
       cells = kept .4;
     }
 
--- a table of 4,096 places has every phase's threshold
-pub listed : (s : Screen) (memory table : List ℕ) → Admitted s → 4096 ≡ length memory → table ≡ thresholdsIn s memory
-    → (s .n ≤ length table) × ((p : ℕ) → p < s .n → getD table p 0 ≡ thresholdOf s p)
-listed s memory table ok long e =
-    let law = threshold-listed s ok memory (omega (arith, admitted-words s .0 ok .cells-limit)) in
-    rw e (omega (arith, law .0, admitted-words s .0 ok .cells-limit), law .1)
+-- what the table asks of a window that has cells
+pub table-input : (s : Screen) (w : Window) (places inputs outputs : ℕ) → windowRefusal s w inputs outputs ≡ 0 → (outputs ≡ 0 → ⊥) → 4096 ≡ places
+    → Admitted s × (s .n ≤ places) × (0 < w .columns) × (w .x + w .columns ≤ 65536) × (w .y + w .rows ≤ 65536)
+table-input s w places inputs outputs e some room =
+    let kept = window-kept s w inputs outputs e in
+    (kept .0, omega (arith, admitted-words s .0 (kept .0) .cells-limit), some-columns s w inputs outputs e some, kept .1, kept .2)
+
+-- a table of all thresholds has those of every window
+pub listed : (s : Screen) (x y columns cells : ℕ) (memory table : List ℕ) → Admitted s → s .n ≤ length memory → table ≡ thresholdsIn s memory
+    → Prepared s x y columns cells memory table
+listed s x y columns cells memory table ok long e =
+    let law = threshold-listed s ok memory long in
+    rw e (record { size = law .0; listed = λ i l. law .1 (phase s (x + i % columns) (y + i / columns)) (phase-below s ok _ _) })
 
 -- ---- a lone place
 

@@ -4,4 +4,5 @@ mod AnswerLaws
 mod RowLoop
 mod BrickRow
 mod WindowLoop
+mod PrepareLoop
 mod DemandLaws

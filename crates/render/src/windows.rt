@@ -17,6 +17,7 @@ use crate::refusals::brick_due;
 use crate::refusals::places;
 use crate::refusals::window_refusal;
 use crate::rows::row;
+use crate::thresholds::prepare;
 use screen::Brick;
 use screen::Screen;
 use separation::Inks;
@@ -37,7 +38,7 @@ pub fn render(s: Screen, sep: Separation, w: Window, input: &[u8], out: &mut [u8
         return nothing(0);
     }
     let mut table = places();
-    quantiser::thresholds(s, &mut table);
+    prepare(s, w.x, w.y, w.columns, w.rows, &mut table);
     let tallies = worked_rows(s, sep, &table, w.x, w.y, w.columns, w.rows, input, out);
     Rendering {
         refusal: 0,
@@ -70,7 +71,7 @@ pub fn render_brick(
         return nothing(0);
     }
     let mut table = places();
-    quantiser::thresholds(s, &mut table);
+    prepare(s, w.x, w.y, w.columns, w.rows, &mut table);
     let size = screen::brick_of(s);
     let tallies = read_rows(
         s.n,

@@ -6,7 +6,7 @@ use lib.ListN.{getD}
 use borrow.Author.Needs.{needs}
 use Rattle.render.specs.Windows.{talliesOf}
 use Rattle.render.proofs.RefusalLaws.{window-kept}
-use Rattle.render.proofs.AnswerLaws.{answer-none, answer-empty, answer-whole, cells-length, cells-are, window-input, listed}
+use Rattle.render.proofs.AnswerLaws.{answer-none, answer-empty, answer-whole, cells-length, cells-are, window-input, table-input}
 use Rattle.render.proofs.DemandLaws.{worked-keeps}
 use Rattle.render.proofs.windows.render.Statement.{statement}
 use Rattle.render.proofs.windows.render.Tie as tie
@@ -33,11 +33,15 @@ returns-2 c =
 places-requires : tie.Need-places-requires
 places-requires c κs = search needs
 
-slice-aggregate-thresholds : tie.Need-slice-aggregate-thresholds
-slice-aggregate-thresholds c = search needs
+slice-aggregate-prepare : tie.Need-slice-aggregate-prepare
+slice-aggregate-prepare c = search needs
 
-thresholds-requires : tie.Need-thresholds-requires
-thresholds-requires c κs = search needs
+prepare-requires : tie.Need-prepare-requires
+prepare-requires c κs =
+    let room = c .before in
+    let tested = room .before .before in
+    let e = sym (tested .before .window-refusal .ensures) ∙ tested .if1 .left in
+    table-input _ _ _ _ _ e (room .before .if2 .left) (room .places .ensures)
 
 slice-aggregate-worked-rows : tie.Need-slice-aggregate-worked-rows
 slice-aggregate-worked-rows c = search needs
@@ -49,8 +53,8 @@ worked-rows-requires c κs =
     let tested = room .before .before in
     let e = sym (tested .before .window-refusal .ensures) ∙ tested .if1 .left in
     let ok = window-kept _ _ _ _ e .0 in
-    let long = listed _ _ _ ok (room .places .ensures) (call .thresholds .ensures .1) in
-    (ok, window-input _ _ _ _ _ e (room .before .if2 .left) (long .0))
+    let long = table-input _ _ _ _ _ e (room .before .if2 .left) (room .places .ensures) .1 in
+    (ok, window-input _ _ _ _ _ e (room .before .if2 .left) (omega (arith, long, call .prepare .ensures .size)))
 
 same-length : tie.Need-same-length
 same-length c = search needs
@@ -65,8 +69,7 @@ returns-3 c =
     let e = sym (tested .before .window-refusal .ensures) ∙ tested .if1 .left in
     let kept = window-kept _ _ _ _ e in
     let bytes : (k : ℕ) → getD (start .args .input .now) k 0 ≤ 255 = λ k. omega (arith, tested .before .before .before .shared-slice-known .given k) in
-    let long = listed _ _ _ (kept .0) (room .places .ensures) (call .thresholds .ensures .1) in
-    let cells = cells-are (start .args .s) (start .args .sep) (start .args .w) (start .args .input .now) (kept .0) bytes _ (long .1) _ (λ u v. refl) in
+    let cells = cells-are (start .args .s) (start .args .sep) (start .args .w) (start .args .input .now) (kept .0) bytes _ _ (call .prepare .ensures) _ (λ u v. refl) in
     worked-keeps _ _ _ _ _ (answer-whole _ _ _ e (cells-length _ _ _ _ ∙ sym (kept .4)) (rows .worked-rows .ensures .counts ∙ ap talliesOf cells) (rows .worked-rows .ensures .cells ∙ cells))
 
 pub render-spec : {M : Type 1} → statement M
@@ -79,8 +82,8 @@ render-spec =
     nothing-requires-2
     returns-2
     places-requires
-    slice-aggregate-thresholds
-    thresholds-requires
+    slice-aggregate-prepare
+    prepare-requires
     slice-aggregate-worked-rows
     worked-rows-requires
     same-length

@@ -11,7 +11,7 @@ use Rattle.screen.specs.Brick.{brickPlace}
 use Rattle.screen.proofs.Published.{brick-answered}
 use Rattle.render.specs.Windows.{talliesOf}
 use Rattle.render.proofs.RefusalLaws.{window-kept, due-true, brick-window, brick-undue, brick-whole}
-use Rattle.render.proofs.AnswerLaws.{answer-none, answer-empty, answer-whole, cells-length, cells-are, window-input, listed}
+use Rattle.render.proofs.AnswerLaws.{answer-none, answer-empty, answer-whole, cells-length, cells-are, window-input, table-input}
 use Rattle.render.proofs.DemandLaws.{read-keeps}
 use Rattle.render.proofs.BrickRow.{brick-input, brick-reads}
 use Rattle.render.proofs.windows.render_brick.Statement.{statement}
@@ -56,11 +56,15 @@ returns-3 c =
 places-requires : tie.Need-places-requires
 places-requires c κs = search needs
 
-slice-aggregate-thresholds : tie.Need-slice-aggregate-thresholds
-slice-aggregate-thresholds c = search needs
+slice-aggregate-prepare : tie.Need-slice-aggregate-prepare
+slice-aggregate-prepare c = search needs
 
-thresholds-requires : tie.Need-thresholds-requires
-thresholds-requires c κs = search needs
+prepare-requires : tie.Need-prepare-requires
+prepare-requires c κs =
+    let room = c .before in
+    let tested = room .before .before .before .before in
+    let e = sym (tested .before .window-refusal .ensures) ∙ tested .if1 .left in
+    table-input _ _ _ _ _ e (room .before .if3 .left) (room .places .ensures)
 
 brick-of-requires : tie.Need-brick-of-requires
 brick-of-requires c κs = search needs
@@ -79,8 +83,8 @@ read-rows-requires c κs =
     let e = sym (tested .before .window-refusal .ensures) ∙ tested .if1 .left in
     let ok = window-kept _ _ _ _ e .0 in
     let holds = due-true _ _ ok (passed (compared .brick-due .ensures) (due .if2 .left)) in
-    let long = listed _ _ _ ok (room .places .ensures) (call .thresholds .ensures .1) in
-    (brick-input _ ok _ holds _ (size .brick-of .ensures ∙ brick-answered _ ok), window-input _ _ _ _ _ e (room .before .if3 .left) (long .0))
+    let long = table-input _ _ _ _ _ e (room .before .if3 .left) (room .places .ensures) .1 in
+    (brick-input _ ok _ holds _ (size .brick-of .ensures ∙ brick-answered _ ok), window-input _ _ _ _ _ e (room .before .if3 .left) (omega (arith, long, call .prepare .ensures .size)))
 
 same-length : tie.Need-same-length
 same-length c = search needs
@@ -100,9 +104,8 @@ returns-4 c =
     let kept = window-kept _ _ _ _ e in
     let holds = due-true _ _ (kept .0) tells in
     let bytes : (k : ℕ) → getD (start .args .input .now) k 0 ≤ 255 = λ k. omega (arith, tested .before .before .before .before .shared-slice-known .given k) in
-    let long = listed _ _ _ (kept .0) (room .places .ensures) (call .thresholds .ensures .1) in
     let reads = brick-reads (start .args .s) (kept .0) (start .args .brick .now) holds (size .brick-of .result) (size .brick-of .ensures ∙ brick-answered _ (kept .0)) in
-    let cells = cells-are (start .args .s) (start .args .sep) (start .args .w) (start .args .input .now) (kept .0) bytes (call .thresholds .last .1 .0) (long .1) (λ u v. getD (start .args .brick .now) (brickPlace (size .brick-of .result .columns) (size .brick-of .result .rows) (size .brick-of .result .shift) (start .args .w .x + u) (start .args .w .y + v)) 0) (λ u v. reads (start .args .w .x + u) (start .args .w .y + v)) in
+    let cells = cells-are (start .args .s) (start .args .sep) (start .args .w) (start .args .input .now) (kept .0) bytes _ _ (call .prepare .ensures) (λ u v. getD (start .args .brick .now) (brickPlace (size .brick-of .result .columns) (size .brick-of .result .rows) (size .brick-of .result .shift) (start .args .w .x + u) (start .args .w .y + v)) 0) (λ u v. reads (start .args .w .x + u) (start .args .w .y + v)) in
     read-keeps _ _ _ _ _ _ (answer-whole _ _ _ (sym (brick-whole _ _ _ _ _ e tells)) (cells-length _ _ _ _ ∙ sym (kept .4)) (rows .read-rows .ensures .counts ∙ ap talliesOf cells) (rows .read-rows .ensures .cells ∙ cells))
 
 pub render-brick-spec : {M : Type 1} → statement M
@@ -118,8 +121,8 @@ render-brick-spec =
     nothing-requires-3
     returns-3
     places-requires
-    slice-aggregate-thresholds
-    thresholds-requires
+    slice-aggregate-prepare
+    prepare-requires
     brick-of-requires
     slice-aggregate-read-rows
     read-rows-requires
