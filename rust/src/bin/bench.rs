@@ -2,7 +2,7 @@
 //! unpacking; beside each the plain second implementation and a copy of the same input bytes, measured in
 //! the same run. Run by `cargo run --release --features bench --bin bench`.
 
-use cavzemil::{pack, unpack, Screen, Separation, Window};
+use cavzemil::{pack, unpack, Inks, Screen, Separation, Window};
 use cavzemil_plain as plain;
 use cavzemil_plain::random::Random;
 use std::hint::black_box;
@@ -18,6 +18,9 @@ const CELLS: usize = (SIDE * SIDE) as usize;
 const REPEATS: u32 = 3;
 const PLAIN_REPEATS: u32 = 2;
 const COPY_REPEATS: u32 = 10;
+
+/// How many lone cells are asked for.
+const LONE_CELLS: u32 = 100_000;
 
 /// The screen, as both implementations take it.
 const SCREEN: Screen = Screen { a: 4, b: 7, n: 105, k: 2, g: 0 };
@@ -46,15 +49,20 @@ fn images() -> [Image; 3] {
     ]
 }
 
-/// Cells a second at the best of some repeats.
-fn speed(repeats: u32, mut call: impl FnMut()) -> f64 {
+/// Seconds of the best of some repeats.
+fn seconds(repeats: u32, mut call: impl FnMut()) -> f64 {
     let mut best = f64::INFINITY;
     for _ in 0..repeats {
         let start = Instant::now();
         call();
         best = best.min(start.elapsed().as_secs_f64());
     }
-    CELLS as f64 / best
+    best
+}
+
+/// Cells a second at the best of some repeats.
+fn speed(repeats: u32, call: impl FnMut()) -> f64 {
+    CELLS as f64 / seconds(repeats, call)
 }
 
 /// Cells a second of copying these bytes, which belong to all cells together.
@@ -127,6 +135,25 @@ fn measure_plates((name, input): &Image) {
     print_row(&format!("unpack, {name}"), library, plain, copy_speed(&planes));
 }
 
+/// Measures lone cells on a screen of 4,096 cells, in nanoseconds a call: a window that meets one phase.
+fn measure_lone_cells() {
+    let (screen, plain_screen) = (Screen { n: 4096, ..SCREEN }, plain::Screen { n: 4096, ..PLAIN_SCREEN });
+    let places = || (0..LONE_CELLS).map(|place| (place % SIDE, place / 7));
+    let inks = Inks { c: 51, m: 102, y: 204 };
+    let library = seconds(REPEATS, || {
+        places().for_each(|(x, y)| {
+            black_box(screened(screen.cell_at(Separation::Kueppers, x, y, inks)));
+        });
+    });
+    let plain = seconds(PLAIN_REPEATS, || {
+        places().for_each(|(x, y)| {
+            black_box(plain::cell_at(plain_screen, Separation::Kueppers.number(), x, y, [51, 102, 204]));
+        });
+    });
+    let nanoseconds = |seconds: f64| seconds * 1e9 / f64::from(LONE_CELLS);
+    println!("cell_at, n = 4096: {:.0} ns a call; plain {:.0} ns", nanoseconds(library), nanoseconds(plain));
+}
+
 /// The answer of a call that is not refused.
 fn screened<T>(answer: Result<T, cavzemil::Refusal>) -> T {
     answer.expect("the benchmark's calls are not refused")
@@ -146,4 +173,5 @@ fn main() {
         }
     }
     images.iter().for_each(measure_plates);
+    measure_lone_cells();
 }
