@@ -13,6 +13,13 @@ pub struct Inks {
     pub y: u8,
 }
 
+impl Inks {
+    /// Its values in a row: c, m, y.
+    pub(crate) fn values(self) -> [u8; 3] {
+        [self.c, self.m, self.y]
+    }
+}
+
 /// How ink values become the shares of the eight colorants.
 #[derive(Clone, Copy, Debug, PartialEq, Eq, Hash)]
 pub enum Separation {
@@ -102,7 +109,6 @@ impl fmt::Display for Colorant {
 }
 
 /// A colour: X, Y, Z, each 0 to 200 where it is a primary's.
-#[repr(C)]
 #[derive(Clone, Copy, Debug, PartialEq)]
 pub struct Xyz {
     /// X.

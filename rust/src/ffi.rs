@@ -2,7 +2,8 @@
 //!
 //! Structs pass by value, and a slice is a pointer and then a length. Refusal 0 means 'not refused'; a
 //! separation is 0 for Demichel and 1 for Kueppers, and any other number is refused as 100, before all
-//! else. Callers in Rust are better served by the safe interface at the crate's root.
+//! else. Callers in Rust are better served by the safe interface at the crate's root, or by [`crate::calls`]
+//! where they want these numbers.
 
 /// A screen: the slope a/b with 1 ≤ a < b ≤ 64 and no common divisor above 1, the cell count N from 1 to
 /// 4,096, the number of subscreens K from 1 to 16 and at most N, and the offset g below N.

@@ -25,6 +25,7 @@
 //! patch will have. A call that can't be served answers a [`Refusal`], and then lent memory stays as it
 //! was.
 
+pub mod calls;
 mod colour;
 pub mod ffi;
 mod plates;

@@ -1,6 +1,6 @@
 //! Plates: eight planes of one bit a cell.
 
-use crate::ffi;
+use crate::calls;
 use crate::refusal::Refusal;
 
 /// Packs `columns` × `rows` cells into eight planes, colorant 0 first, each of `rows` rows of `columns` / 8
@@ -15,11 +15,7 @@ use crate::refusal::Refusal;
 /// # Ok::<(), cavzemil::Refusal>(())
 /// ```
 pub fn pack(columns: u32, rows: u32, cells: &[u8], planes: &mut [u8]) -> Result<(), Refusal> {
-    // SAFETY: both pointers come with the lengths of their own slices.
-    let refusal = unsafe {
-        ffi::cavzemil_pack(columns, rows, cells.as_ptr(), cells.len(), planes.as_mut_ptr(), planes.len())
-    };
-    Refusal::check(refusal, 0)
+    Refusal::check(calls::pack(columns, rows, cells, planes), 0)
 }
 
 /// Unpacks eight planes into `columns` × `rows` cells.
@@ -38,9 +34,5 @@ pub fn pack(columns: u32, rows: u32, cells: &[u8], planes: &mut [u8]) -> Result<
 /// # Ok::<(), cavzemil::Refusal>(())
 /// ```
 pub fn unpack(columns: u32, rows: u32, planes: &[u8], cells: &mut [u8]) -> Result<(), Refusal> {
-    // SAFETY: both pointers come with the lengths of their own slices.
-    let refusal = unsafe {
-        ffi::cavzemil_unpack(columns, rows, planes.as_ptr(), planes.len(), cells.as_mut_ptr(), cells.len())
-    };
-    Refusal::check(refusal, 0)
+    Refusal::check(calls::unpack(columns, rows, planes, cells), 0)
 }

@@ -1,7 +1,8 @@
 //! What a screen can be asked. Every call tests the screen first, by refusals 1 to 4.
 
+use crate::calls;
 use crate::colour::{Colorant, Inks, Separation, Xyz};
-use crate::ffi::{self, Rendering, Screen, Window};
+use crate::ffi::{Rendering, Screen, Window};
 use crate::refusal::Refusal;
 
 /// A brick, which tiles the sheet: the phase at (x + shift, y + rows) is that at (x, y), and a row repeats
@@ -34,8 +35,7 @@ impl Screen {
     /// assert_eq!(screen.phase_at(65_536, 0), Err(Refusal::OffSheet));
     /// ```
     pub fn phase_at(self, x: u32, y: u32) -> Result<u32, Refusal> {
-        // SAFETY: the call takes no memory.
-        let place = unsafe { ffi::cavzemil_phase_at(self, x, y) };
+        let place = calls::phase_at(self, x, y);
         Refusal::check(place.refusal, 0)?;
         Ok(place.phase)
     }
@@ -49,8 +49,7 @@ impl Screen {
     /// assert_eq!(screen.brick(), Ok(Brick { columns: 35, rows: 2, shift: 21 }));
     /// ```
     pub fn brick(self) -> Result<Brick, Refusal> {
-        // SAFETY: the call takes no memory.
-        let brick = unsafe { ffi::cavzemil_brick_of(self) };
+        let brick = calls::brick_of(self);
         Refusal::check(brick.refusal, 0)?;
         Ok(Brick { columns: brick.columns, rows: brick.rows, shift: brick.shift })
     }
@@ -69,9 +68,7 @@ impl Screen {
     /// # Ok::<(), cavzemil::Refusal>(())
     /// ```
     pub fn fill_brick(self, brick: &mut [u16]) -> Result<(), Refusal> {
-        // SAFETY: the pointer comes with the length of its own slice.
-        let refusal = unsafe { ffi::cavzemil_fill_brick(self, brick.as_mut_ptr(), brick.len()) };
-        Refusal::check(refusal, 0)
+        Refusal::check(calls::fill_brick(self, brick), 0)
     }
 
     /// How many of the N cells of a brick each colorant gets; the counts add up to N.
@@ -84,8 +81,7 @@ impl Screen {
     /// assert_eq!(counts, Ok([0, 0, 28, 0, 0, 14, 14, 14]));
     /// ```
     pub fn counts(self, separation: Separation, inks: Inks) -> Result<[u32; 8], Refusal> {
-        // SAFETY: the call takes no memory.
-        let counts = unsafe { ffi::cavzemil_counts_of(self, separation.number(), inks.c, inks.m, inks.y) };
+        let counts = calls::counts_of(self, separation.number(), inks.values());
         Refusal::check(counts.refusal, 0)?;
         Ok(counts.of)
     }
@@ -101,8 +97,7 @@ impl Screen {
     /// assert_eq!(colorant(127), Ok(Colorant::White));
     /// ```
     pub fn cell_at(self, separation: Separation, x: u32, y: u32, inks: Inks) -> Result<Colorant, Refusal> {
-        // SAFETY: the call takes no memory.
-        let cell = unsafe { ffi::cavzemil_cell_at(self, separation.number(), x, y, inks.c, inks.m, inks.y) };
+        let cell = calls::cell_at(self, separation.number(), x, y, inks.values());
         Refusal::check(cell.refusal, 0)?;
         Ok(Colorant::from_answer(cell.colorant))
     }
@@ -133,18 +128,7 @@ impl Screen {
         input: &[u8],
         out: &mut [u8],
     ) -> Result<[u64; 8], Refusal> {
-        // SAFETY: both pointers come with the lengths of their own slices.
-        tallies(unsafe {
-            ffi::cavzemil_render(
-                self,
-                separation.number(),
-                window,
-                input.as_ptr(),
-                input.len(),
-                out.as_mut_ptr(),
-                out.len(),
-            )
-        })
+        tallies(calls::render(self, separation.number(), window, input, out))
     }
 
     /// Renders a window like [`Screen::render`], phases read from a brick buffer that
@@ -175,20 +159,7 @@ impl Screen {
         brick: &[u16],
         out: &mut [u8],
     ) -> Result<[u64; 8], Refusal> {
-        // SAFETY: the three pointers come with the lengths of their own slices.
-        tallies(unsafe {
-            ffi::cavzemil_render_brick(
-                self,
-                separation.number(),
-                window,
-                input.as_ptr(),
-                input.len(),
-                brick.as_ptr(),
-                brick.len(),
-                out.as_mut_ptr(),
-                out.len(),
-            )
-        })
+        tallies(calls::render_brick(self, separation.number(), window, input, brick, out))
     }
 
     /// The colour of a patch: the mean of the eight primaries, weighed by the counts. Refused as 11, which
@@ -208,10 +179,8 @@ impl Screen {
     /// assert_eq!(refused, Err(Refusal::Primary(Colorant::Magenta)));
     /// ```
     pub fn predict(self, separation: Separation, inks: Inks, primaries: &[Xyz; 8]) -> Result<Xyz, Refusal> {
-        let values = primaries.as_ptr().cast();
-        // SAFETY: eight records of three f64 fields each, laid out as in C, are 24 values in a row.
-        let prediction =
-            unsafe { ffi::cavzemil_predict(self, separation.number(), inks.c, inks.m, inks.y, values, 24) };
+        let values = primaries.map(|primary| [primary.x, primary.y, primary.z]);
+        let prediction = calls::predict(self, separation.number(), inks.values(), values.as_flattened());
         Refusal::check(prediction.refusal, prediction.colorant)?;
         Ok(Xyz { x: prediction.x, y: prediction.y, z: prediction.z })
     }

@@ -56,6 +56,25 @@ module _ (refusal : ℕ) (run memory : List ℕ) where
   pub written-refused : {r : ℕ} → r ≡ refusal → (r ≡ 0 → ⊥) → (r ≡ refusal) × (memory ≡ written refusal run memory)
   written-refused e h = (e, sym (written-none (λ z. h (e ∙ z))))
 
+-- A call that is tested twice, by its sizes and then by what it is given, and answers the run that it writes: refused by the second test, by
+-- the first, and not refused.
+module _ (size : ℕ) (test : Bool) (number : ℕ) (run memory : List ℕ) where
+  module _ (fits : size ≡ 0) where
+    pub content-refused : test ≡ false → (suc number ≡ orElse size (unless test (suc number) 0)) × (memory ≡ written (orElse size (unless test (suc number) 0)) run memory)
+    content-refused e =
+        written-refused (orElse size (unless test (suc number) 0)) run memory (sym (refused-later size (unless test (suc number) 0) fits ∙ rw e)) (suc-ne-zero number)
+
+    pub content-passed : test ≡ true → length run ≡ length memory
+        → (0 ≡ orElse size (unless test (suc number) 0)) × (run ≡ written (orElse size (unless test (suc number) 0)) run memory)
+    content-passed e l =
+        let none : orElse size (unless test (suc number) 0) ≡ 0 = refused-later size (unless test (suc number) 0) fits ∙ rw e in
+        (sym none, sym (written-all (orElse size (unless test (suc number) 0)) run memory none l))
+
+  pub size-refused : {r : ℕ} → r ≡ size → (r ≡ 0 → ⊥)
+      → (r ≡ orElse size (unless test (suc number) 0)) × (memory ≡ written (orElse size (unless test (suc number) 0)) run memory)
+  size-refused e h =
+      written-refused (orElse size (unless test (suc number) 0)) run memory (e ∙ sym (refused-first size (unless test (suc number) 0) (λ z. h (e ∙ z)))) h
+
 -- a call that is not refused is refused neither at first nor later
 pub or-none : (refusal later : ℕ) → orElse refusal later ≡ 0 → (refusal ≡ 0) × (later ≡ 0)
 or-none refusal later e = go (ℕ-discrete refusal 0)

@@ -2,13 +2,13 @@
 -- Assumes nothing.
 use mathlib.Core.Path.{_≡_, refl, sym, ap, _∙_}
 use Prim.Native.Nat.{ℕ, zero, suc, _+_, _-_, _≤_, _<_}
-use native.Mathlib.Nat.{add-zero, add-suc}
+use native.Mathlib.Nat.{add-zero, add-suc, le-refl}
 use native.Mathlib.Numerals.{add-one}
 use native.Mathlib.Decide.{decLt}
 use native.Mathlib.Omega.{arith}
 use mathlib.Core.List.{List, [], _∷_, _++_, append-nil, append-assoc}
-use lib.ListN.{length, getD, set, take, drop, length-append, length-take, length-drop, drop-of-length-le, List·getD-append}
-use lib.Seq.{set-at, getD-at, take-at, drop-at, drop-drop, drop-cons, append-snoc}
+use lib.ListN.{length, getD, set, take, drop, length-append, length-take, length-drop, drop-of-length-le, List·getD-append, List·getD-eq-default}
+use lib.Seq.{set-at, getD-at, take-at, drop-at, drop-drop, drop-cons, append-snoc, take-all, getD-take, getD-drop}
 use borrow.Rule.Slice.PartMut.{putMid}
 use Rattle.arith.specs.Run.{upto}
 
@@ -55,6 +55,22 @@ upto-over f l i h = simp (length-append, upto-length, length-drop) (omega arith)
 -- a part of k places has k of them
 pub part-length : (i k : ℕ) (l : List ℕ) → i + k ≤ length l → length (take (i + k - i) (drop i l)) ≡ k
 part-length i k l h = simp (length-take, length-drop) (omega arith)
+
+-- what stands in a part is what stands further on in the whole
+pub part-at : (i end : ℕ) (l : List ℕ) (j : ℕ) → j < end - i → getD (take (end - i) (drop i l)) j 0 ≡ getD l (i + j) 0
+part-at i end l j h = getD-take (end - i) (drop i l) j 0 h ∙ getD-drop i l j 0
+
+-- the part from a place to the end is all that comes after it
+pub part-to-end : (l : List ℕ) (i : ℕ) → take (length l - i) (drop i l) ≡ drop i l
+part-to-end l i = take-all (length l - i) (drop i l) (rw (length-drop i l) (le-refl (length l - i)))
+
+-- a bound on a run's number at a place holds wherever one reads: beyond its end stands 0
+pub upto-most : (f : ℕ → ℕ) (n k most : ℕ) → f k ≤ most → getD (upto f n) k 0 ≤ most
+upto-most f n k most small = go (decLt k n)
+  where
+    go : Dec (k < n) → getD (upto f n) k 0 ≤ most
+    go (yes l) = rw (upto-at f n k l) small
+    go (no l) = rw (List·getD-eq-default (upto f n) 0 {n = k} (omega (arith, upto-length f n))) (omega arith)
 
 -- ---- a loop that writes a run from its first place on
 

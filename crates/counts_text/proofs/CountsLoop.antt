@@ -9,6 +9,7 @@ use native.Mathlib.Numerals.{add-one}
 use native.Mathlib.Omega.{arith}
 use lib.ListN.{length, take, drop, length-append, length-take, length-drop, drop-of-length-le}
 use borrow.Rule.Slice.PartMut.{putMid}
+use Rattle.arith.proofs.RunLaws.{part-to-end}
 use Rattle.screen.specs.declared.Screen.{Screen}
 use Rattle.screen.specs.Screens.{Admitted}
 use Rattle.separation.specs.declared.Separation.{Separation}
@@ -21,7 +22,7 @@ use Rattle.counts_text.specs.Text.{split, newline, lines, lineAt, joined
 use Rattle.counts_text.specs.Lines.{letterC, screenIn, lineOf, countsLine}
 use Rattle.counts_text.specs.Program.{lineRefusal, countsLines}
 use Rattle.counts_text.specs.Parsers.{Parted, Patch, PatchSays, Accepted}
-use Rattle.counts_text.proofs.SplitLaws.{Reached, reached-piece, reached-count, reached-next, part-to-end}
+use Rattle.counts_text.proofs.SplitLaws.{Reached, reached-piece, reached-count, reached-next}
 use Rattle.counts_text.proofs.JoinedLaws.{joined-next, joined-within}
 use Rattle.counts_text.proofs.WroteLaws.{wrote-none, wrote-as, wrote-part, wrote-length}
 use Rattle.counts_text.proofs.JudgeLaws.{second-line, bad-patch}

@@ -172,28 +172,29 @@ unfolding firstBad
 none-first text good =
     First.first-none (length (lines text)) (λ k. not (eqb (lineRefusal text k) 0)) (λ i l. ap not (eq-eqb (lineRefusal text i) 0 (good i l)))
 
-pub good-fits : (text : List ℕ) → ((i : ℕ) → i < length (lines text) → lineRefusal text i ≡ 0) → length (countsLines text) ≤ 16384
+good-fits : (text : List ℕ) → ((i : ℕ) → i < length (lines text) → lineRefusal text i ≡ 0) → length (countsLines text) ≤ 16384
 good-fits text good = omega (arith, lines-limit text good (some-piece 10 text))
+
+-- of two texts, each where its test says
+either-fits : (t : Bool) (a b : List ℕ) → (t ≡ true → length a ≤ 16384) → (t ≡ false → length b ≤ 16384) → length (cond t a b) ≤ 16384
+either-fits true a b p q = p refl
+either-fits false a b p q = q refl
 
 judged-fits : (text : List ℕ) → length text ≤ 65536 → length (judged text) ≤ 16384
 unfolding judged
-judged-fits text short = go (ltb (firstBad text) (length (lines text))) refl
-  where
-    go : (t : Bool) → ltb (firstBad text) (length (lines text)) ≡ t
-        → length (cond t (errorLine (suc (firstBad text)) (lineRefusal text (firstBad text))) (countsLines text)) ≤ 16384
-    go true e =
-        omega (
-          arith,
-          error-limit (suc (firstBad text)) (lineRefusal text (firstBad text))
-              (omega (arith, ltb-true (firstBad text) (length (lines text)) e, split-limit 10 text))
-              (omega (arith, refusal-limit text (firstBad text))),
-        )
-    go false e = good-fits text (none-bad text (ltb-false (firstBad text) (length (lines text)) e))
+judged-fits text short =
+    either-fits (ltb (firstBad text) (length (lines text))) _ _
+    (λ e. omega (
+      arith,
+      error-limit (suc (firstBad text)) (lineRefusal text (firstBad text))
+          (omega (arith, ltb-true (firstBad text) (length (lines text)) e, split-limit 10 text))
+          (omega (arith, refusal-limit text (firstBad text))),
+    ))
+    (λ e. good-fits text (none-bad text (ltb-false (firstBad text) (length (lines text)) e)))
 
 pub output-fits : (text : List ℕ) → length (countsText text) ≤ 16384
 unfolding countsText
-output-fits text = go (ltb 65536 (length text)) refl
-  where
-    go : (t : Bool) → ltb 65536 (length text) ≡ t → length (cond t (errorLine 0 10) (judged text)) ≤ 16384
-    go true e = omega (arith, error-limit 0 10 (omega arith) (omega arith))
-    go false e = judged-fits text (ltb-false 65536 (length text) e)
+output-fits text =
+    either-fits (ltb 65536 (length text)) (errorLine 0 10) (judged text)
+    (λ e. omega (arith, error-limit 0 10 (lit≤ tt) (lit≤ tt)))
+    (λ e. judged-fits text (ltb-false 65536 (length text) e))

@@ -13,6 +13,7 @@ use lib.ListN.{length, take, drop, length-drop}
 use lib.Seq.{drop-length}
 use lib.Dec.{eqb, leb, ltb}
 use borrow.Author.Tests.{lt-ltb, le-ltb, ltb-false, le-leb, lt-leb, eq-eqb, ne-eqb}
+use Rattle.arith.proofs.RunLaws.{part-to-end}
 use Rattle.arith.specs.Refusal.{unless}
 use Rattle.arith.proofs.FirstLaws.{first-is}
 use Rattle.screen.specs.Screens.{refusalOf}
@@ -23,7 +24,7 @@ use Rattle.counts_text.specs.Text.{split, newline, lines, lineAt}
 use Rattle.counts_text.specs.Lines.{isScreen, screenIn, screenRefusal, isPatch, patchRefusal}
 use Rattle.counts_text.specs.Program.{ended, lineRefusal, firstBad}
 use Rattle.counts_text.specs.Parsers.{Parted, Patch, PatchSays, Accepted, Judged}
-use Rattle.counts_text.proofs.SplitLaws.{Reached, reached-start, reached-piece, reached-count, reached-next, some-piece, only-piece, part-to-end}
+use Rattle.counts_text.proofs.SplitLaws.{Reached, reached-start, reached-piece, reached-count, reached-next, some-piece, only-piece}
 
 -- ---- the first line
 module _ (text : List ℕ) where

@@ -12,3 +12,4 @@ mod JudgeLaws
 mod FirstLine
 mod CountsLoop
 mod Fits
+mod ProgramLaws

@@ -8,6 +8,7 @@ use native.Mathlib.Omega.{arith}
 use lib.ListN.{length, getD, take, drop, take-append-drop, length-take}
 use lib.Dec.{eqb, leb}
 use borrow.Author.Tests.{eqb-true, leb-true, not-false}
+use Rattle.arith.proofs.RunLaws.{part-to-end}
 use Rattle.arith.specs.Every.{every}
 use Rattle.arith.specs.Run.{upto}
 use Rattle.arith.proofs.RefusalLaws.{both-pass, failed, passed}
@@ -15,7 +16,7 @@ use Rattle.arith.proofs.EveryLaws.{every-passes}
 use Rattle.counts_text.specs.Text.{tab, fields, fieldAt, same}
 use Rattle.counts_text.specs.Numbers.{isNumber, isNumberTo, valueOf}
 use Rattle.counts_text.specs.Lines.{areNumbers, numberAt}
-use Rattle.counts_text.proofs.SplitLaws.{part-to-end, split-front}
+use Rattle.counts_text.proofs.SplitLaws.{split-front}
 
 -- the two halves of each test
 count-and-each : (many most : ℕ) (numbers : List (List ℕ)) → areNumbers many most numbers ≡ true

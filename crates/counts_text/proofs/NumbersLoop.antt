@@ -16,7 +16,7 @@ use denote.Enum.Declared.{tagOf}
 use Rattle.arith.specs.Every.{every}
 use Rattle.arith.specs.Run.{upto}
 use Rattle.arith.proofs.EveryLaws.{every-made, every-fails}
-use Rattle.arith.proofs.RunLaws.{Filling, filling-start, filling-store, filling-whole}
+use Rattle.arith.proofs.RunLaws.{Filling, filling-start, filling-store, filling-whole, part-to-end}
 use Rattle.counts_text.specs.declared.parsers.Field.{Field}
 use Rattle.counts_text.specs.declared.parsers.Field.the-variants.{More, Last, NoNumber}
 use Rattle.counts_text.specs.Text.{tab, fields}
@@ -24,7 +24,7 @@ use Rattle.counts_text.specs.Numbers.{isNumberTo}
 use Rattle.counts_text.specs.Lines.{areNumbers, numberAt}
 use Rattle.counts_text.specs.Parsers.{FieldRead, NumberRead}
 use Rattle.counts_text.proofs.parsers.Field.{the-type}
-use Rattle.counts_text.proofs.SplitLaws.{Reached, reached-start, reached-piece, reached-count, reached-next, part-to-end, parted-count}
+use Rattle.counts_text.proofs.SplitLaws.{Reached, reached-start, reached-piece, reached-count, reached-next, parted-count}
 
 pub record NumbersAt (most : ℕ) (text of₀ of : List ℕ) (at i : ℕ) : Type 0 where
   pub here : Reached tab text at i

@@ -6,11 +6,11 @@ use mathlib.Core.Bool.{Bool, true, false}
 use mathlib.Core.List.{List, [], _∷_, _++_}
 use mathlib.Core.Logic.{_⊎_, inl, inr}
 use native.Mathlib.Omega.{arith}
-use native.Mathlib.Nat.{eq-or-lt-of-le, le-refl, add-zero}
+use native.Mathlib.Nat.{eq-or-lt-of-le, add-zero}
 use native.Mathlib.Numerals.{add-one}
 use lib.Dec.{eqb}
 use lib.ListN.{length, getD, take, drop, length-drop}
-use lib.Seq.{take-length, take-all, split-at, getD-drop, drop-drop}
+use lib.Seq.{take-length, split-at, getD-drop, drop-drop}
 use borrow.Author.Tests.{eqb-true}
 use Rattle.bytes.specs.Bytes.{indexOf, indexAfter}
 use Rattle.counts_text.specs.Text.{split}
@@ -112,10 +112,6 @@ pub record Reached (b : ℕ) (text : List ℕ) (at i : ℕ) : Type 0 where
 
 pub reached-start : (b : ℕ) (text : List ℕ) → Reached b text 0 0
 reached-start b text = record { within = omega arith; rest = refl }
-
--- the part of a text from a place to the end
-pub part-to-end : (text : List ℕ) (at : ℕ) → take (length text - at) (drop at text) ≡ drop at text
-part-to-end text at = take-all (length text - at) (drop at text) (rw (length-drop at text) (le-refl (length text - at)))
 
 module _ {b : ℕ} {text : List ℕ} {at i : ℕ} (here : Reached b text at i) where
   pub reached-piece : getD (split b text) i [] ≡ getD (split b (drop at text)) 0 []

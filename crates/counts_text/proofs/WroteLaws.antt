@@ -7,8 +7,9 @@ use native.Mathlib.Nat.{le-refl}
 use native.Mathlib.Numerals.{add-one}
 use native.Mathlib.Omega.{arith}
 use lib.ListN.{length, getD, set, take, drop, length-append, length-drop, drop-of-length-le}
-use lib.Seq.{set-at, take-at, drop-at, drop-drop, drop-cons, append-snoc, take-all}
+use lib.Seq.{set-at, take-at, drop-at, drop-drop, drop-cons, append-snoc}
 use borrow.Rule.Slice.PartMut.{putMid}
+use Rattle.arith.proofs.RunLaws.{part-to-end}
 use Rattle.counts_text.specs.Text.{Wrote}
 
 pub wrote-none : (before : List ℕ) → Wrote [] before before 0
@@ -35,7 +36,7 @@ module _ {run before after : List ℕ} {r : ℕ} (w : Wrote run before after r) 
       → Wrote (run ++ more) before (putMid r (length after - r) after last) (r + k)
   wrote-part v =
       let rest : take (length after - r) (drop r after) ≡ drop r before =
-      take-all (length after - r) (drop r after) (rw (length-drop r after) (le-refl (length after - r))) ∙ rw (w .memory) (drop-at run (drop r before) r (sym (w .many))) in
+      part-to-end after r ∙ rw (w .memory) (drop-at run (drop r before) r (sym (w .many))) in
       let front : take r after ≡ run = rw (w .memory) (take-at run (drop r before) r (sym (w .many))) in
       let back : drop (length after - r) (drop r after) ≡ [] = drop-of-length-le (drop r after) {i = length after - r} (rw (length-drop r after) (le-refl (length after - r))) in
       record {

@@ -1,6 +1,6 @@
 -- What `counts_text` promises of its definitions beside its contract. Each is a statement; proofs/Published.antt proves it.
 -- Assumes nothing.
-use Prim.Native.Nat.{ℕ, _≤_}
+use Prim.Native.Nat.{ℕ, suc, _≤_, _<_}
 use mathlib.Core.Path.{_≡_}
 use mathlib.Core.Bool.{true}
 use mathlib.Core.List.{List}
@@ -8,9 +8,10 @@ use lib.ListN.{length}
 use Rattle.screen.specs.declared.Screen.{Screen}
 use Rattle.screen.specs.Screens.{Admitted}
 use Rattle.quantiser.specs.Running.{countsOf}
+use Rattle.counts_text.specs.Text.{lines}
 use Rattle.counts_text.specs.Numbers.{isNumber, valueOf, numeral}
-use Rattle.counts_text.specs.Lines.{letterC, separationIn, inksIn, lineOf, countsLine}
-use Rattle.counts_text.specs.Program.{countsText}
+use Rattle.counts_text.specs.Lines.{letterC, separationIn, inksIn, lineOf, countsLine, errorLine}
+use Rattle.counts_text.specs.Program.{lineRefusal, firstBad, countsText}
 
 -- writing a number and reading it back gives the number
 abbrev pub NumberBack : Type 0
@@ -24,6 +25,12 @@ FieldBack = (field : List ℕ) → isNumber field ≡ true → numeral (valueOf 
 abbrev pub CountsWritten : Type 0
 CountsWritten =
     (s : Screen) → Admitted s → (line : List ℕ) → countsLine s line ≡ lineOf letterC (countsOf s (separationIn line) (inksIn line) .of)
+
+-- "at the first bad one it writes only E, line number, refusal number"
+abbrev pub ErrorAlone : Type 0
+ErrorAlone =
+    (text : List ℕ) → length text ≤ 65536 → firstBad text < length (lines text)
+    → countsText text ≡ errorLine (suc (firstBad text)) (lineRefusal text (firstBad text))
 
 -- whatever is read, what is written fits the lent array
 abbrev pub OutputFits : Type 0

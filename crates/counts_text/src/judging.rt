@@ -15,7 +15,7 @@ pub enum Verdict {
 }
 
 // Judges all lines.
-pub fn judge(input: &[u8]) -> Verdict
+pub(crate) fn judge(input: &[u8]) -> Verdict
     ensures { λ r. ⌜ VerdictSays (now (input .entry)) r ⌝ }
 {
     let found = screen_line(input);

@@ -8,7 +8,7 @@ ghost use Rattle.counts_text.specs.Text.{Wrote};
 ghost use Rattle.counts_text.specs.Numbers.{isDigit, isNumber, valueOf, numeral};
 
 // Whether a field is a number: 1 to 5 digits, the first of them 0 only where it is alone.
-pub fn is_number(field: &[u8]) -> bool
+pub(crate) fn is_number(field: &[u8]) -> bool
     ensures { λ r. ⌜ r ≡ isNumber (now (field .entry)) ⌝ }
 {
     if field.len() == 0 {
@@ -41,7 +41,7 @@ fn is_digit(byte: u8) -> bool
 }
 
 // The number that a field stands for.
-pub fn value_of(field: &[u8]) -> u32
+pub(crate) fn value_of(field: &[u8]) -> u32
     requires { ⌜ isNumber (now field) ≡ true ⌝ }
     ensures { λ r. ⌜ r ≡ valueOf (now (field .entry)) ⌝ }
 {
@@ -60,7 +60,7 @@ fn digit_of(byte: u8) -> u32
 }
 
 // Writes a number's numeral and answers how many digits it has.
-pub fn write_number(v: u32, out: &mut [u8]) -> usize
+pub(crate) fn write_number(v: u32, out: &mut [u8]) -> usize
     requires { ⌜ length (numeral v) ≤ length (now out) ⌝ }
     ensures { λ r. ⌜ Wrote (numeral v) (now (out .entry)) (now (out .exit)) r ⌝ }
 {

@@ -97,7 +97,7 @@ fn begins(text: &[u8], head: &[u8]) -> bool
 }
 
 // The first line of a text, where it is a screen's.
-pub fn screen_line(text: &[u8]) -> ScreenLine
+pub(crate) fn screen_line(text: &[u8]) -> ScreenLine
     ensures { λ r. ⌜ ScreenSays (now (text .entry)) r ⌝ }
 {
     let end = place_of(text, 10);
@@ -127,7 +127,7 @@ pub fn screen_line(text: &[u8]) -> ScreenLine
 }
 
 // The first line of a text, where it is a P line.
-pub fn patch_line(text: &[u8]) -> PatchLine
+pub(crate) fn patch_line(text: &[u8]) -> PatchLine
     ensures { λ r. ⌜ PatchSays (now (text .entry)) r ⌝ }
 {
     let end = place_of(text, 10);

@@ -29,7 +29,7 @@ fn write_line(letter: u8, numbers: &[u32], out: &mut [u8]) -> usize
 }
 
 // Writes the line that names a bad line, and answers how many bytes it has.
-pub fn write_error(line: u32, refusal: u32, out: &mut [u8]) -> usize
+pub(crate) fn write_error(line: u32, refusal: u32, out: &mut [u8]) -> usize
     requires { ⌜ length (errorLine line refusal) ≤ length (now out) ⌝ }
     ensures { λ r. ⌜ Wrote (errorLine line refusal) (now (out .entry)) (now (out .exit)) r ⌝ }
 {
@@ -38,7 +38,13 @@ pub fn write_error(line: u32, refusal: u32, out: &mut [u8]) -> usize
 }
 
 // Writes a line of counts for each P line of an input that is good, and answers how many bytes that is.
-pub fn write_counts(input: &[u8], from: usize, patches: u32, s: Screen, out: &mut [u8]) -> usize
+pub(crate) fn write_counts(
+    input: &[u8],
+    from: usize,
+    patches: u32,
+    s: Screen,
+    out: &mut [u8],
+) -> usize
     requires { ⌜ Accepted (now input) patches × (s ≡ screenIn (lineAt (now input) 0)) × Admitted s × Parted newline (now input) from × (length (countsLines (now input)) ≤ length (now out)) ⌝ }
     ensures { λ r. ⌜ Wrote (countsLines (now (input .entry))) (now (out .entry)) (now (out .exit)) r ⌝ }
 {

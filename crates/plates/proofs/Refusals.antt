@@ -2,12 +2,11 @@
 -- Assumes nothing.
 use Prim.Native.Nat.{ℕ, _≤_}
 use mathlib.Core.Path.{_≡_, refl, sym, _∙_}
-use mathlib.Core.Bool.{true, false, _&&_}
+use mathlib.Core.Bool.{Bool, true, false, _&&_}
 use mathlib.Core.List.{List}
-use native.Mathlib.Nat.{suc-ne-zero}
 use lib.ListN.{length}
 use borrow.Author.Tests.{leb-true, eqb-true, eq-eqb, ne-eqb}
-use Rattle.arith.proofs.RefusalLaws.{both-pass, unless-none, refused-first, refused-later, or-none, written-all, written-refused}
+use Rattle.arith.proofs.RefusalLaws.{both-pass, unless-none, or-none, content-refused, content-passed, size-refused}
 use Rattle.arith.proofs.RunLaws.{upto-length}
 use Rattle.plates.specs.Planes.{planesLength, cellsLength, planesOf, cellsOf, colorantsOnly, pixelsOnce, paddingClear}
 use Rattle.plates.specs.Refusals.{onSheet, lengthsRefusal, sizeRefusal, packSize, unpackSize, packRefusal, unpackRefusal, packed, unpacked}
@@ -57,39 +56,36 @@ module _ (columns rows input stated output due : ℕ) where
       let seven = unless-none _ 6 _ (six .1) in
       (five .0, eqb-true _ _ (six .0), eqb-true _ _ (seven .0))
 
--- ---- packing
+-- ---- packing: refused by its cells, not refused, and refused by its sizes
 
 module _ (columns rows : ℕ) (cells memory : List ℕ) where
-  -- refused by its sizes, by its content, and not refused
-  pub pack-size : {r : ℕ} → r ≡ packSize columns rows (length cells) (length memory) → (r ≡ 0 → ⊥)
-      → (r ≡ packRefusal columns rows cells (length memory)) × (memory ≡ packed columns rows cells memory)
-  unfolding packRefusal packed
-  pack-size e h = written-refused _ (planesOf columns rows cells) memory (e ∙ sym (refused-first (packSize columns rows (length cells) (length memory)) _ (λ z. h (e ∙ z)))) h
-
   module _ (size : packSize columns rows (length cells) (length memory) ≡ 0) where
     pub pack-9 : colorantsOnly cells ≡ false → (9 ≡ packRefusal columns rows cells (length memory)) × (memory ≡ packed columns rows cells memory)
     unfolding packRefusal packed
-    pack-9 e = written-refused _ (planesOf columns rows cells) memory (sym (refused-later (packSize columns rows (length cells) (length memory)) _ size ∙ rw e)) (suc-ne-zero 8)
+    pack-9 e = content-refused _ (colorantsOnly cells) 8 (planesOf columns rows cells) memory size e
 
     pub pack-0 : colorantsOnly cells ≡ true → (0 ≡ packRefusal columns rows cells (length memory)) × (planesOf columns rows cells ≡ packed columns rows cells memory)
     unfolding packRefusal packed planesOf
     pack-0 e =
-        let none : packRefusal columns rows cells (length memory) ≡ 0 = refused-later (packSize columns rows (length cells) (length memory)) _ size ∙ rw e in
-        (sym none, sym (written-all _ (planesOf columns rows cells) memory none (upto-length _ (planesLength columns rows) ∙ sym (size-kept _ _ _ _ _ _ size .2))))
+        content-passed _ (colorantsOnly cells) 8 (planesOf columns rows cells) memory size e
+        (upto-length _ (planesLength columns rows) ∙ sym (size-kept _ _ _ _ _ _ size .2))
 
--- ---- unpacking
+  pub pack-size : {r : ℕ} → r ≡ packSize columns rows (length cells) (length memory) → (r ≡ 0 → ⊥)
+      → (r ≡ packRefusal columns rows cells (length memory)) × (memory ≡ packed columns rows cells memory)
+  unfolding packRefusal packed
+  pack-size e h = size-refused _ (colorantsOnly cells) 8 (planesOf columns rows cells) memory e h
+
+-- ---- unpacking, in the same way
 
 module _ (columns rows : ℕ) (planes memory : List ℕ) where
-  pub unpack-size : {r : ℕ} → r ≡ unpackSize columns rows (length planes) (length memory) → (r ≡ 0 → ⊥)
-      → (r ≡ unpackRefusal columns rows planes (length memory)) × (memory ≡ unpacked columns rows planes memory)
-  unfolding unpackRefusal unpacked
-  unpack-size e h = written-refused _ (cellsOf columns rows planes) memory (e ∙ sym (refused-first (unpackSize columns rows (length planes) (length memory)) _ (λ z. h (e ∙ z)))) h
+  -- whether the planes are such as packing gives
+  abbrev sound : Bool
+  sound = pixelsOnce columns rows planes && paddingClear columns rows planes
 
   module _ (size : unpackSize columns rows (length planes) (length memory) ≡ 0) where
-    unpack-9 : (pixelsOnce columns rows planes && paddingClear columns rows planes) ≡ false
-        → (9 ≡ unpackRefusal columns rows planes (length memory)) × (memory ≡ unpacked columns rows planes memory)
+    unpack-9 : sound ≡ false → (9 ≡ unpackRefusal columns rows planes (length memory)) × (memory ≡ unpacked columns rows planes memory)
     unfolding unpackRefusal unpacked
-    unpack-9 e = written-refused _ (cellsOf columns rows planes) memory (sym (refused-later (unpackSize columns rows (length planes) (length memory)) _ size ∙ rw e)) (suc-ne-zero 8)
+    unpack-9 e = content-refused _ sound 8 (cellsOf columns rows planes) memory size e
 
     pub unpack-9-pixel : pixelsOnce columns rows planes ≡ false → (9 ≡ unpackRefusal columns rows planes (length memory)) × (memory ≡ unpacked columns rows planes memory)
     unpack-9-pixel e = unpack-9 (rw e)
@@ -101,8 +97,13 @@ module _ (columns rows : ℕ) (planes memory : List ℕ) where
       pub unpack-0 : paddingClear columns rows planes ≡ true → (0 ≡ unpackRefusal columns rows planes (length memory)) × (cellsOf columns rows planes ≡ unpacked columns rows planes memory)
       unfolding unpackRefusal unpacked cellsOf
       unpack-0 e =
-          let none : unpackRefusal columns rows planes (length memory) ≡ 0 = refused-later (unpackSize columns rows (length planes) (length memory)) _ size ∙ rw (once, e) in
-          (sym none, sym (written-all _ (cellsOf columns rows planes) memory none (upto-length _ (cellsLength columns rows) ∙ sym (size-kept _ _ _ _ _ _ size .2))))
+          content-passed _ sound 8 (cellsOf columns rows planes) memory size (rw (once, e))
+          (upto-length _ (cellsLength columns rows) ∙ sym (size-kept _ _ _ _ _ _ size .2))
+
+  pub unpack-size : {r : ℕ} → r ≡ unpackSize columns rows (length planes) (length memory) → (r ≡ 0 → ⊥)
+      → (r ≡ unpackRefusal columns rows planes (length memory)) × (memory ≡ unpacked columns rows planes memory)
+  unfolding unpackRefusal unpacked
+  unpack-size e h = size-refused _ sound 8 (cellsOf columns rows planes) memory e h
 
 -- ---- what a call that is not refused has passed
 

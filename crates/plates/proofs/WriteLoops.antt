@@ -9,12 +9,11 @@ use native.Mathlib.Decide.{decLt}
 use native.Mathlib.Omega.{arith}
 use lib.Arith.{digits-div, digits-mod}
 use lib.ListN.{length, getD, take, drop}
-use lib.Seq.{getD-take, getD-drop}
 use borrow.Author.Tests.{le-ltb}
 use borrow.Rule.Slice.PartMut.{putMid}
 use Rattle.arith.specs.Run.{upto}
 use Rattle.arith.specs.Sum.{indicator}
-use Rattle.arith.proofs.RunLaws.{Filling, filling-start, filling-length, filling-part, filling-whole, part-length, upto-same}
+use Rattle.arith.proofs.RunLaws.{Filling, filling-start, filling-length, filling-part, filling-whole, part-length, part-at, upto-same}
 use Rattle.arith.proofs.SumLaws.{sum-same}
 use Rattle.plates.specs.Masks.{mask}
 use Rattle.plates.specs.Planes.{rowBytes, planesLength, cellsLength, cellAt, inPlane, planeByte, planesByte, planesOf, colorantOf, cellsOf}
@@ -34,7 +33,7 @@ byte-same columns cell other p b same =
 
 -- the cells of a row, as they are lent
 row-cell : (columns y : ℕ) (cells : List ℕ) (x : ℕ) → x < columns → getD (take (y * columns + columns - y * columns) (drop (y * columns) cells)) x 0 ≡ cellAt columns cells y x
-row-cell columns y cells x l = rw (getD-take (y * columns + columns - y * columns) (drop (y * columns) cells) x 0 (omega arith), getD-drop)
+row-cell columns y cells x l = part-at (y * columns) (y * columns + columns) cells x (omega arith)
 
 -- the first rows of the planes are written
 pub record PlanesAt (columns rows : ℕ) (cells : List ℕ) (bytes : ℕ) (planes₀ planes : List ℕ) (place row : ℕ) : Type 0 where

@@ -7,8 +7,7 @@ use mathlib.Core.List.{List}
 use native.Mathlib.Nat.{le-trans, le-mul-of-pos-right, mul-comm, mul-le-mul, mul-le-mul-right, mod-lt, div-le-self, div-lt-iff-lt-mul, div-add-mod'}
 use native.Mathlib.Omega.{arith}
 use lib.ListN.{length, getD, take, drop}
-use lib.Seq.{getD-take, getD-drop}
-use Rattle.arith.proofs.RunLaws.{part-length}
+use Rattle.arith.proofs.RunLaws.{part-length, part-at}
 use Rattle.arith.proofs.RemainderLaws.{remainder-apart, remainder-on}
 use Rattle.screen.specs.declared.Screen.{Screen}
 use Rattle.screen.specs.declared.bricks.Brick.{Brick}
@@ -40,7 +39,7 @@ module _ {n columns rows shift : ℕ} {brick : List ℕ} (b : BrickInput n colum
   line-length y = part-length (y % rows * columns) columns brick (omega (arith, line-fits y, b .long))
 
   line-at : (y i : ℕ) → i < columns → getD (lineOf columns rows brick y) i 0 ≡ getD brick (y % rows * columns + i) 0
-  line-at y i l = getD-take (y % rows * columns + columns - y % rows * columns) (drop (y % rows * columns) brick) i 0 (omega arith) ∙ getD-drop (y % rows * columns) brick i 0
+  line-at y i l = part-at (y % rows * columns) (y % rows * columns + columns) brick i (omega arith)
 
   pub line-low : (y i : ℕ) → i < columns → getD (lineOf columns rows brick y) i 0 < n
   line-low y i l = rw (line-at y i l) (b .low (y % rows * columns + i) (omega (arith, line-fits y)))

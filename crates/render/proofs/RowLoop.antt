@@ -5,11 +5,10 @@ use mathlib.Core.Path.{_≡_, refl, sym, ap, _∙_}
 use mathlib.Core.List.{List, [], _∷_, _++_}
 use native.Mathlib.Nat.{mul-zero, add-zero, mod-eq-of-lt, mod-add-mod}
 use native.Mathlib.Numerals.{add-one}
-use native.Mathlib.Decide.{decLt}
 use native.Mathlib.Omega.{arith}
-use lib.ListN.{length, getD, set, List·getD-eq-default}
+use lib.ListN.{length, getD, set}
 use Rattle.arith.specs.Run.{upto}
-use Rattle.arith.proofs.RunLaws.{Filling, filling-start, filling-length, filling-store, filling-whole, upto-length, upto-at, upto-same}
+use Rattle.arith.proofs.RunLaws.{Filling, filling-start, filling-length, filling-store, filling-whole, upto-length, upto-same, upto-most}
 use Rattle.arith.proofs.TallyLaws.{tally-most, tallies-bump, tallies-none}
 use Rattle.separation.specs.declared.Separation.{Separation}
 use Rattle.separation.specs.declared.Inks.{Inks}
@@ -17,14 +16,6 @@ use Rattle.quantiser.proofs.Published.{rank-below}
 use Rattle.render.specs.declared.cells.Paint.{Paint}
 use Rattle.render.specs.Windows.{inksAt}
 use Rattle.render.specs.Rows.{cellBy, rowBy, talliedOn, paintOf, Own, Written}
-
--- a bound on a table's number at a place holds wherever one reads: beyond its end stands 0
-pub upto-most : (h : ℕ → ℕ) (n k most : ℕ) → h k ≤ most → getD (upto h n) k 0 ≤ most
-upto-most h n k most small = go (decLt k n)
-  where
-    go : Dec (k < n) → getD (upto h n) k 0 ≤ most
-    go (yes l) = rw (upto-at h n k l) small
-    go (no l) = rw (List·getD-eq-default (upto h n) 0 {n = k} (omega (arith, upto-length h n))) (omega arith)
 
 cell-below : (n : ℕ) (sep : Separation) (table : List ℕ) (f : ℕ → ℕ) (input : List ℕ) (i : ℕ) → cellBy n sep table (f i) (inksAt input i) < 8
 unfolding cellBy

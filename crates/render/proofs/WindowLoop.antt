@@ -7,17 +7,15 @@ use native.Mathlib.Nat.{mul-le-mul-right}
 use native.Mathlib.Omega.{arith}
 use lib.Arith.{digits-div, digits-mod}
 use lib.ListN.{length, getD, take, drop, length-take, length-drop}
-use lib.Seq.{getD-take, getD-drop}
 use borrow.Rule.Slice.PartMut.{putMid}
 use Rattle.arith.specs.Run.{upto}
 use Rattle.arith.specs.Tally.{tally}
-use Rattle.arith.proofs.RunLaws.{Filling, filling-start, filling-length, filling-part, filling-whole, part-length, upto-length, upto-at, upto-add, upto-same}
+use Rattle.arith.proofs.RunLaws.{Filling, filling-start, filling-length, filling-part, filling-whole, part-length, part-at, upto-length, upto-at, upto-add, upto-same, upto-most}
 use Rattle.arith.proofs.TallyLaws.{tally-append, tally-most}
 use Rattle.separation.specs.declared.Separation.{Separation}
 use Rattle.render.specs.Windows.{inksAt, talliesOf}
 use Rattle.render.specs.Rows.{cellIn, rowBy, rowsBy, talliedOn, RowInput, Written, WindowInput, RowsWritten}
 use Rattle.render.proofs.RefusalLaws.{area-limit}
-use Rattle.render.proofs.RowLoop.{upto-most}
 
 -- the part of a list that is lent for a row
 abbrev pub part : List ℕ → ℕ → ℕ → List ℕ
@@ -42,8 +40,7 @@ module _ (n : ℕ) (sep : Separation) (table : List ℕ) (f : ℕ → ℕ → �
     where
       byte : (k m : ℕ) → k < 3 * columns → 3 * from + k ≡ m → getD (part input (3 * from) (3 * (from + columns))) k 0 ≡ getD input m 0
       byte k m h q =
-          getD-take (3 * (from + columns) - 3 * from) (drop (3 * from) input) k 0 (omega arith)
-          ∙ getD-drop (3 * from) input k 0
+          part-at (3 * from) (3 * (from + columns)) input k (omega arith)
           ∙ ap (λ (z : ℕ). getD input z 0) q
 
   -- the row that is worked out from its part has the next cells

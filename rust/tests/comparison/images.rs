@@ -339,26 +339,27 @@ fn small_screens_on_small_windows() {
     }
 }
 
+/// So many rounds from a seed: in each, a case for every pair of most columns and rows.
+fn compare_rounds(seed: u64, rounds: u32, most: &[(u32, u32)]) {
+    let mut random = Random::new(seed);
+    for _ in 0..rounds {
+        for &(columns, rows) in most {
+            let case = draw_case(&mut random, columns, rows);
+            compare_both(&mut random, case);
+        }
+    }
+}
+
 /// Any screens on windows and images of all sorts.
 #[test]
 fn any_screens_on_many_windows() {
-    let mut random = Random::new(32);
-    for _ in 0..80_000 {
-        let case = draw_case(&mut random, 60, 40);
-        compare_both(&mut random, case);
-    }
+    compare_rounds(32, 80_000, &[(60, 40)]);
 }
 
 /// Any screens on long rows and on high columns.
 #[test]
 fn any_screens_on_wide_and_tall_windows() {
-    let mut random = Random::new(33);
-    for _ in 0..2_000 {
-        let wide = draw_case(&mut random, 9000, 3);
-        compare_both(&mut random, wide);
-        let tall = draw_case(&mut random, 3, 9000);
-        compare_both(&mut random, tall);
-    }
+    compare_rounds(33, 2_000, &[(9000, 3), (3, 9000)]);
 }
 
 /// One row, and one column, of the whole sheet.

@@ -1,35 +1,20 @@
 -- `counts_text::run` meets its contract: the verdict settles which of the definition's texts is written. Assumes nothing.
-use Prim.Native.Nat.{ℕ, _≤_, _<_}
+use Prim.Native.Nat.{ℕ, _≤_}
 use mathlib.Core.Path.{_≡_, sym, subst}
 use mathlib.Core.List.{List, _++_}
 use native.Mathlib.Omega.{arith}
 use lib.ListN.{length, take, drop}
 use lib.Seq.{take-at}
 use borrow.Author.Needs.{needs}
-use borrow.Author.Tests.{lt-ltb, le-ltb}
-use Rattle.counts_text.specs.Text.{Wrote, lines}
+use Rattle.counts_text.specs.Text.{Wrote}
 use Rattle.counts_text.specs.Lines.{errorLine}
-use Rattle.counts_text.specs.Program.{firstBad, countsLines, judged, countsText}
-use Rattle.counts_text.specs.Parsers.{Accepted, Judged, VerdictSays}
+use Rattle.counts_text.specs.Program.{countsText}
+use Rattle.counts_text.specs.Parsers.{VerdictSays}
 use Rattle.counts_text.proofs.WroteLaws.{wrote-as, wrote-length}
-use Rattle.counts_text.proofs.Fits.{output-fits, none-first}
+use Rattle.counts_text.proofs.Fits.{output-fits}
+use Rattle.counts_text.proofs.ProgramLaws.{too-long, bad-text, good-text}
 use Rattle.counts_text.proofs.run.Statement.{statement}
 use Rattle.counts_text.proofs.run.Tie as tie
-
--- ---- the definition's three texts
-too-long : (text : List ℕ) → 65536 < length text → errorLine 0 10 ≡ countsText text
-unfolding countsText
-too-long text l = rw (lt-ltb 65536 (length text) l)
-
-module _ (text : List ℕ) (short : length text ≤ 65536) where
-  bad-text : (line refusal : ℕ) → Judged text line refusal → errorLine line refusal ≡ countsText text
-  unfolding countsText judged
-  bad-text line refusal j =
-      rw (le-ltb 65536 (length text) short, lt-ltb (firstBad text) (length (lines text)) (j .there), j .number, j .why)
-
-  good-text : (patches : ℕ) → Accepted text patches → countsLines text ≡ countsText text
-  unfolding countsText judged
-  good-text patches ok = rw (le-ltb 65536 (length text) short, le-ltb (firstBad text) (length (lines text)) (omega (arith, none-first text (ok .good))))
 
 -- ---- what is promised, of a text that was written
 promised : (text before after : List ℕ) (r : ℕ) → length before ≡ 16384 → Wrote (countsText text) before after r
@@ -46,10 +31,10 @@ fitting text run memory e room = rw e (omega (arith, output-fits text, room))
 write-error-requires : tie.Need-write-error-requires
 write-error-requires c κs =
     let start = c .before .before .before in
-    fitting (start .args .input .now) (errorLine 0 10) (start .args .out .now) (too-long _ (c .before .if1 .taken)) (search needs)
+    fitting (start .args .input .now) (errorLine 0 10) (start .args .out .now) (too-long _ (omega (arith, c .before .if1 .taken))) (search needs)
 
 returns : tie.Need-returns
-returns c = promised _ _ _ _ (search needs) (wrote-as (c .write-error .ensures) (too-long _ (c .before .before .if1 .taken)))
+returns c = promised _ _ _ _ (search needs) (wrote-as (c .write-error .ensures) (too-long _ (omega (arith, c .before .before .if1 .taken))))
 
 judge-requires : tie.Need-judge-requires
 judge-requires c κs = search needs
@@ -63,7 +48,7 @@ write-error-requires-2 c κs =
     let judge = verdict .before .before in
     let start = judge .before .before .before in
     fitting (start .args .input .now) _ (start .args .out .now)
-    (bad-text _ (judge .before .if1 .left) _ _ (subst (VerdictSays _) (verdict .verdict .given .1) (judge .judge .ensures)))
+    (bad-text _ (omega (arith, judge .before .if1 .left)) _ _ (subst (VerdictSays _) (verdict .verdict .given .1) (judge .judge .ensures)))
     (search needs)
 
 enum-known-verdict-2 : tie.Need-enum-known-verdict-2
@@ -75,21 +60,21 @@ write-counts-requires c κs =
     let judge = verdict .before .before in
     let start = judge .before .before .before in
     let says = subst (VerdictSays _) (verdict .verdict2 .given .1) (judge .judge .ensures) in
-    (says .0, says .1, says .2, says .3, fitting (start .args .input .now) _ (start .args .out .now) (good-text _ (judge .before .if1 .left) _ (says .0)) (search needs))
+    (says .0, says .1, says .2, says .3, fitting (start .args .input .now) _ (start .args .out .now) (good-text _ (omega (arith, judge .before .if1 .left)) _ (says .0)) (search needs))
 
 returns-2 : tie.Need-returns-2
 returns-2 c =
     let verdict = c .before .before .before in
     let judge = verdict .before .before in
     promised _ _ _ _ (search needs)
-    (wrote-as (c .write-error2 .ensures) (bad-text _ (judge .before .if1 .left) _ _ (subst (VerdictSays _) (verdict .verdict .given .1) (judge .judge .ensures))))
+    (wrote-as (c .write-error2 .ensures) (bad-text _ (omega (arith, judge .before .if1 .left)) _ _ (subst (VerdictSays _) (verdict .verdict .given .1) (judge .judge .ensures))))
 
 returns-3 : tie.Need-returns-3
 returns-3 c =
     let verdict = c .before .before .before in
     let judge = verdict .before .before in
     let says = subst (VerdictSays _) (verdict .verdict2 .given .1) (judge .judge .ensures) in
-    promised _ _ _ _ (search needs) (wrote-as (c .write-counts .ensures) (good-text _ (judge .before .if1 .left) _ (says .0)))
+    promised _ _ _ _ (search needs) (wrote-as (c .write-counts .ensures) (good-text _ (omega (arith, judge .before .if1 .left)) _ (says .0)))
 
 pub run-spec : {M : Type 1} → statement M
 run-spec =

@@ -1,0 +1,99 @@
+//! The C functions on slices: each hands a slice on as its pointer and its length, and answers C's numbers
+//! as they are.
+//!
+//! Nothing is tested here: a call that can't be served answers its refusal's number, and a separation that
+//! there is not answers 100.
+//!
+//! ```
+//! use cavzemil::{calls, Screen};
+//!
+//! let screen = Screen { a: 4, b: 7, n: 70, k: 1, g: 0 };
+//! assert_eq!(calls::counts_of(screen, 1, [51, 102, 204]).of, [0, 0, 28, 0, 0, 14, 14, 14]);
+//! assert_eq!(calls::counts_of(screen, 2, [51, 102, 204]).refusal, 100);
+//! ```
+
+use crate::ffi::{self, BrickSizes, Cell, Counts, Place, Prediction, Rendering, Screen, Window};
+
+/// The phase of a place.
+pub fn phase_at(s: Screen, x: u32, y: u32) -> Place {
+    // SAFETY: the call takes no memory.
+    unsafe { ffi::cavzemil_phase_at(s, x, y) }
+}
+
+/// The brick's columns, rows and shift.
+pub fn brick_of(s: Screen) -> BrickSizes {
+    // SAFETY: the call takes no memory.
+    unsafe { ffi::cavzemil_brick_of(s) }
+}
+
+/// Fills the first N places of a brick buffer.
+pub fn fill_brick(s: Screen, brick: &mut [u16]) -> u32 {
+    // SAFETY: the pointer comes with the length of its own slice.
+    unsafe { ffi::cavzemil_fill_brick(s, brick.as_mut_ptr(), brick.len()) }
+}
+
+/// The counts of the eight colorants, of inks c, m, y.
+pub fn counts_of(s: Screen, separation: u32, [c, m, y]: [u8; 3]) -> Counts {
+    // SAFETY: the call takes no memory.
+    unsafe { ffi::cavzemil_counts_of(s, separation, c, m, y) }
+}
+
+/// The colorant of a place, of inks c, m, y.
+pub fn cell_at(s: Screen, separation: u32, x: u32, y: u32, [c, m, yellow]: [u8; 3]) -> Cell {
+    // SAFETY: the call takes no memory.
+    unsafe { ffi::cavzemil_cell_at(s, separation, x, y, c, m, yellow) }
+}
+
+/// Renders a window, phases worked out.
+pub fn render(s: Screen, separation: u32, w: Window, input: &[u8], out: &mut [u8]) -> Rendering {
+    let (pixels, cells) = (input.as_ptr(), out.as_mut_ptr());
+    // SAFETY: both pointers come with the lengths of their own slices.
+    unsafe { ffi::cavzemil_render(s, separation, w, pixels, input.len(), cells, out.len()) }
+}
+
+/// Renders a window, phases read from a brick buffer.
+pub fn render_brick(
+    s: Screen,
+    separation: u32,
+    w: Window,
+    input: &[u8],
+    brick: &[u16],
+    out: &mut [u8],
+) -> Rendering {
+    // SAFETY: the three pointers come with the lengths of their own slices.
+    unsafe {
+        ffi::cavzemil_render_brick(
+            s,
+            separation,
+            w,
+            input.as_ptr(),
+            input.len(),
+            brick.as_ptr(),
+            brick.len(),
+            out.as_mut_ptr(),
+            out.len(),
+        )
+    }
+}
+
+/// Packs cells into eight planes.
+pub fn pack(columns: u32, rows: u32, cells: &[u8], planes: &mut [u8]) -> u32 {
+    // SAFETY: both pointers come with the lengths of their own slices.
+    unsafe {
+        ffi::cavzemil_pack(columns, rows, cells.as_ptr(), cells.len(), planes.as_mut_ptr(), planes.len())
+    }
+}
+
+/// Unpacks eight planes into cells.
+pub fn unpack(columns: u32, rows: u32, planes: &[u8], cells: &mut [u8]) -> u32 {
+    // SAFETY: both pointers come with the lengths of their own slices.
+    unsafe {
+        ffi::cavzemil_unpack(columns, rows, planes.as_ptr(), planes.len(), cells.as_mut_ptr(), cells.len())
+    }
+}
+
+/// The predicted colour of inks c, m, y, from X, Y, Z a colorant; other than 24 values are refused.
+pub fn predict(s: Screen, separation: u32, [c, m, y]: [u8; 3], primaries: &[f64]) -> Prediction {
+    // SAFETY: the pointer comes with the length of its own slice.
+    unsafe { ffi::cavzemil_predict(s, separation, c, m, y, primaries.as_ptr(), primaries.len()) }
+}
