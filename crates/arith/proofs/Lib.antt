@@ -1,3 +1,5 @@
+pub mod Published
+pub mod AllMarks
 pub mod GcdLaws
 pub mod RemainderLaws
 pub mod SumLaws
@@ -5,6 +7,7 @@ pub mod Residues
 pub mod FirstLaws
 pub mod RunLaws
 pub mod RefusalLaws
+pub mod SheetLaws
 pub mod EveryLaws
 pub mod RoundingLaws
 pub mod StepLaws

@@ -7,15 +7,19 @@ use native.Mathlib.Numerals.{add-one}
 use native.Mathlib.Decide.{decLt}
 use native.Mathlib.Omega.{arith}
 use mathlib.Core.List.{List, [], _∷_, _++_, append-nil, append-assoc}
-use lib.ListN.{length, getD, set, take, drop, length-append, length-take, length-drop, drop-of-length-le, List·getD-append, List·getD-eq-default}
+use lib.ListN.{length, getD, set, take, drop, length-append, length-replicate, length-take, length-drop, drop-of-length-le, List·getD-append, List·getD-eq-default}
 use lib.Seq.{set-at, getD-at, take-at, drop-at, drop-drop, drop-cons, append-snoc, take-all, getD-take, getD-drop}
 use borrow.Rule.Slice.PartMut.{putMid}
-use Rattle.arith.specs.Run.{upto}
+use Rattle.arith.specs.Run.{upto, zeros}
 
 pub upto-length : (f : ℕ → ℕ) (n : ℕ) → length (upto f n) ≡ n
 unfolding upto
 upto-length f zero = refl
 upto-length f (suc n) = rw (length-append, upto-length f n) (add-one n)
+
+pub zeros-length : (n : ℕ) → length (zeros n) ≡ n
+unfolding zeros
+zeros-length n = length-replicate n 0
 
 -- what stands at a place
 pub upto-at : (f : ℕ → ℕ) (n k : ℕ) → k < n → getD (upto f n) k 0 ≡ f k
@@ -103,7 +107,3 @@ module _ {f : ℕ → ℕ} {l₀ l : List ℕ} {i : ℕ} (r : Filling f l₀ l i
   filling-whole n e h =
       let q : i ≡ n = omega (arith, r .within) in
       r .cells ∙ rw (drop-of-length-le l₀ {i = i} (omega arith), append-nil) (ap (upto f) q)
-
-  -- an element that is written already
-  pub filling-at : (k : ℕ) → k < i → getD l k 0 ≡ f k
-  filling-at k h = rw (r .cells) (List·getD-append (upto f i) (drop i l₀) 0 k (omega (arith, upto-length f i)) ∙ upto-at f i k h)

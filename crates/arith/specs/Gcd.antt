@@ -9,7 +9,7 @@ gcdFuel (suc k) a zero = a
 gcdFuel (suc k) a (suc b) = gcdFuel k (suc b) (a % suc b)
 
 -- The second number falls at each step, so that as many steps as it says are enough.
--- That this is the greatest common divisor is said by `gcd-divides` and `gcd-greatest` (proofs/GcdLaws.antt).
+-- That this is the greatest common divisor is said by `GcdCommon` and `GcdGreatest` (Laws.antt).
 unfoldable pub gcdOf : ℕ → ℕ → ℕ
 unfolding gcdFuel
 gcdOf a b = gcdFuel b a b

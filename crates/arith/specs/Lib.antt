@@ -7,3 +7,6 @@ pub mod Run
 pub mod Refusal
 pub mod Tally
 pub mod Rounding
+pub mod Sheet
+pub mod Laws
+pub mod Marks

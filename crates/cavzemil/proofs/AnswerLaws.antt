@@ -4,6 +4,7 @@ use Prim.Native.Nat.{ℕ}
 use mathlib.Core.Path.{_≡_, sym, ap, _∙_}
 use mathlib.Core.Bool.{true, false}
 use mathlib.Core.List.{List}
+use native.Mathlib.Nat.{suc-ne-zero}
 use lib.ListN.{length}
 use Rattle.arith.specs.Run.{upto}
 use Rattle.screen.specs.Screens.{refusalOf}
@@ -13,7 +14,8 @@ use Rattle.quantiser.specs.declared.answer.Counts as Counted
 use Rattle.quantiser.specs.Running.{countsOf}
 use Rattle.render.specs.declared.Cell as Cells
 use Rattle.render.specs.declared.Rendering as Renderings
-use Rattle.render.specs.Answers.{windowRefusal, brickRefusal, answerOf, rendering, rendered, brickRendering, brickRendered, loneCell}
+use Rattle.render.specs.Answers.{windowRefusal, brickRefusal, rendering, rendered, brickRendering, brickRendered, loneCell}
+use Rattle.render.proofs.Published.{answer-refused}
 use Rattle.cavzemil.specs.declared.screens.Screen.{Screen}
 use Rattle.cavzemil.specs.declared.windows.Window.{Window}
 use Rattle.cavzemil.specs.declared.windows.Cell.{Cell}
@@ -27,10 +29,10 @@ use Rattle.cavzemil.specs.Colours.{countsGiven, countsAnswer}
 -- ---- the refusal
 
 module _ (separation refusal : ℕ) where
-  pub refused-unknown : known separation ≡ false → refusedFor separation refusal ≡ 100
+  refused-unknown : known separation ≡ false → refusedFor separation refusal ≡ 100
   refused-unknown e = rw e
 
-  pub refused-known : known separation ≡ true → refusedFor separation refusal ≡ refusal
+  refused-known : known separation ≡ true → refusedFor separation refusal ≡ refusal
   refused-known e = rw e
 
 -- ---- counts
@@ -84,8 +86,8 @@ module _ (refusal : ℕ) (s : Screen) (separation : ℕ) (w : Window) (input out
   Left v out₁ = (v ≡ answerAt (refusedFor separation refusal)) × (out₁ ≡ outputAt (refusedFor separation refusal))
 
   pub window-unknown : {v : Rendering} → known separation ≡ false → v ≡ unrendered → Left v out
-  unfolding renderingGiven outputGiven answerOf
-  window-unknown e q = (q ∙ sym (ap answerAt (refused-unknown separation refusal e)), sym (ap outputAt (refused-unknown separation refusal e)))
+  unfolding renderingGiven outputGiven
+  window-unknown e q = (q ∙ sym (ap renderingLaid (answer-refused 100 _ (suc-ne-zero 99))) ∙ sym (ap answerAt (refused-unknown separation refusal e)), sym (ap outputAt (refused-unknown separation refusal e)))
 
   window-known : {v : Rendering} {out₁ : List ℕ} → known separation ≡ true → v ≡ answerAt refusal → out₁ ≡ outputAt refusal → Left v out₁
   window-known e q p = (q ∙ sym (ap answerAt (refused-known separation refusal e)), p ∙ sym (ap outputAt (refused-known separation refusal e)))

@@ -1,4 +1,4 @@
 -- What the proofs of several functions use, and the marks.
 mod AnswerLaws
 mod PredictionLaws
-pub mod Worked
+pub mod AllMarks

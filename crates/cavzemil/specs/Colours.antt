@@ -15,7 +15,7 @@ use Rattle.separation.specs.declared.Inks.{Inks}
 use Rattle.quantiser.specs.Running.{count}
 use Rattle.predict.specs.declared.Xyz.{Xyz}
 use Rattle.predict.specs.Predicted.{plusZero}
-use Rattle.predict.specs.Paper.{Paper, predictRefusal, valued, ruled}
+use Rattle.predict.specs.Paper.{Paper, ruled}
 use Rattle.cavzemil.specs.declared.screens.Screen.{Screen}
 use Rattle.cavzemil.specs.declared.colours.Counts.{Counts}
 use Rattle.cavzemil.specs.declared.colours.Prediction.{Prediction}
@@ -49,9 +49,9 @@ primariesIn values =
     ∷ primaryIn values 7
     ∷ []
 
--- the refusal of so many values: "another length is 6, after 1 to 4 and before 11"
+-- what is refused before the primaries are read: "another length is 6, after 1 to 4 and before 11"
 unfoldable pub valuesRefusal : Screens.Screen → List Float → ℕ
-valuesRefusal s values = orElse (refusalOf s) (unless (eqb (length values) 24) 6 (predictRefusal s (primariesIn values)))
+valuesRefusal s values = orElse (refusalOf s) (unless (eqb (length values) 24) 6 0)
 
 -- an answer in the paper's numbers, field by field
 abbrev pub paperLaid : Paper → Prediction
@@ -61,16 +61,9 @@ paperLaid p = record { refusal = p .refusal; colorant = p .colorant; x = p .x; y
 abbrev pub colourless : ℕ → ℕ → Prediction
 colourless refusal colorant = record { refusal = refusal; colorant = colorant; x = plusZero; y = plusZero; z = plusZero }
 
--- the colour, given the refusal: "any other returned numbers are 0 (11 carries its colorant)"
+-- the answer, given that refusal: no colour, or what the rules say of the primaries
 unfoldable pub predictionGiven : ℕ → Screens.Screen → Separation → Inks → List Xyz → Prediction
-predictionGiven refusal s sep inks primaries =
-    record {
-      refusal = refusal;
-      colorant = cond (eqb refusal 11) (ruled s sep inks primaries .colorant) 0;
-      x = valued refusal (ruled s sep inks primaries .x);
-      y = valued refusal (ruled s sep inks primaries .y);
-      z = valued refusal (ruled s sep inks primaries .z);
-    }
+predictionGiven refusal s sep inks primaries = cond (eqb refusal 0) (paperLaid (ruled s sep inks primaries)) (colourless refusal 0)
 
 abbrev pub predictAnswer : Screen → ℕ → Inks → List Float → Prediction
 predictAnswer s separation inks values =

@@ -1,34 +1,46 @@
--- Small calls: proofs/Worked.antt shows them by computing the definitions.
--- Assumes nothing.
-use Prim.Native.Nat.{ℕ}
+-- Small calls. proofs/AllMarks.antt shows them by computing the definitions.
+-- Assumes nothing: these are statements.
 use mathlib.Core.Path.{_≡_}
 use mathlib.Core.List.{List, [], _∷_}
+use lib.Ieee.{Float, nan}
+use Rattle.arith.specs.Run.{zeros}
+use Rattle.screen.specs.Marks as Screens
+use Rattle.screen.specs.Phase.{placeOf}
+use Rattle.screen.specs.Brick.{brickOf}
 use Rattle.separation.specs.declared.Separation.the-variants.{Demichel, Kueppers}
-use Rattle.separation.specs.declared.Inks.{Inks}
+use Rattle.separation.specs.Marks.{half}
+use Rattle.predict.specs.Predicted.{plusZero}
 use Rattle.cavzemil.specs.declared.screens.Screen.{Screen}
 use Rattle.cavzemil.specs.declared.windows.Window.{Window}
-use Rattle.cavzemil.specs.Separations.{separationOf, inksOf}
-use Rattle.cavzemil.specs.Windows.{cellAnswer, renderAnswer, renderOutput}
+use Rattle.cavzemil.specs.Separations.{separationOf}
+use Rattle.cavzemil.specs.Screens.{screenOf, screenLaid, placeLaid, brickLaid}
+use Rattle.cavzemil.specs.Windows.{cellAnswer, renderAnswer, renderOutput, brickAnswer, brickOutput}
 use Rattle.cavzemil.specs.Colours.{countsAnswer, colourless, predictAnswer}
 
--- the screen 4/7 of 105 cells, and one whose slope is not in lowest terms
+-- the screen of the listing, one whose slope is not in lowest terms, and one of a single cell, whose brick is the phase 0
 abbrev pub listed : Screen
-listed = record { a = 4; b = 7; n = 105; k = 2; g = 0 }
+listed = screenLaid Screens.listed
 
 abbrev pub sloped : Screen
-sloped = record { a = 4; b = 8; n = 105; k = 2; g = 0 }
+sloped = screenLaid Screens.sloped
 
-abbrev pub half : Inks
-half = inksOf 128 128 0
+abbrev pub single : Screen
+single = record { a = 1; b = 2; n = 1; k = 1; g = 0 }
 
 -- the place (1, 0), at phase 4
 abbrev pub lone : Window
 lone = record { x = 1; y = 0; columns = 1; rows = 1 }
 
-abbrev pub none : List ℕ
-none = 0 ∷ 0 ∷ 0 ∷ 0 ∷ 0 ∷ 0 ∷ 0 ∷ 0 ∷ []
+-- 24 values of 0, but magenta's Y is not a number
+abbrev pub magentaUnset : List Float
+magentaUnset =
+    let o : Float = plusZero in
+    o ∷ o ∷ o ∷ o ∷ nan ∷ o ∷ o ∷ o ∷ o ∷ o ∷ o ∷ o ∷ o ∷ o ∷ o ∷ o ∷ o ∷ o ∷ o ∷ o ∷ o ∷ o ∷ o ∷ o ∷ []
 
 pub record Marks : Type 0 where
+  pub placed : placeLaid (placeOf (screenOf listed) 3 2) ≡ record { refusal = 0; phase = 103 }
+  pub bricked : brickLaid (brickOf (screenOf listed)) ≡ record { refusal = 0; columns = 105; rows = 1; shift = 28 }
+  pub sloped-brick : brickLaid (brickOf (screenOf sloped)) ≡ record { refusal = 1; columns = 0; rows = 0; shift = 0 }
   -- "0 for Demichel, 1 for Kueppers"
   pub zero-demichel : separationOf 0 ≡ Demichel
   pub one-kueppers : separationOf 1 ≡ Kueppers
@@ -36,12 +48,18 @@ pub record Marks : Type 0 where
   pub celled : cellAnswer listed 0 1 0 half ≡ record { refusal = 0; colorant = 0 }
   pub rendered : renderAnswer listed 0 lone (128 ∷ 128 ∷ 0 ∷ []) (9 ∷ []) ≡ record { refusal = 0; tallies = 1 ∷ 0 ∷ 0 ∷ 0 ∷ 0 ∷ 0 ∷ 0 ∷ 0 ∷ [] }
   pub written : renderOutput listed 0 lone (128 ∷ 128 ∷ 0 ∷ []) (9 ∷ []) ≡ 0 ∷ []
+  -- by the second renderer, with a true brick, a short one and a wrong one
+  pub brick-rendered : brickAnswer single 0 lone (128 ∷ 128 ∷ 0 ∷ []) (0 ∷ []) (9 ∷ []) ≡ record { refusal = 0; tallies = 0 ∷ 0 ∷ 0 ∷ 1 ∷ 0 ∷ 0 ∷ 0 ∷ 0 ∷ [] }
+  pub brick-short : brickAnswer single 0 lone (128 ∷ 128 ∷ 0 ∷ []) [] (9 ∷ []) ≡ record { refusal = 8; tallies = zeros 8 }
+  pub brick-wrong : brickAnswer single 0 lone (128 ∷ 128 ∷ 0 ∷ []) (1 ∷ []) (9 ∷ []) ≡ record { refusal = 8; tallies = zeros 8 }
+  pub brick-untouched : brickOutput single 0 lone (128 ∷ 128 ∷ 0 ∷ []) (1 ∷ []) (9 ∷ []) ≡ 9 ∷ []
   -- "any other number is refused as 100, before all else"
-  pub unknown-counts : countsAnswer sloped 2 half ≡ record { refusal = 100; of = none }
+  pub unknown-counts : countsAnswer sloped 2 half ≡ record { refusal = 100; of = zeros 8 }
   pub unknown-cell : cellAnswer sloped 2 65536 0 half ≡ record { refusal = 100; colorant = 0 }
-  pub unknown-window : renderAnswer sloped 2 lone [] (9 ∷ []) ≡ record { refusal = 100; tallies = none }
+  pub unknown-window : renderAnswer sloped 2 lone [] (9 ∷ []) ≡ record { refusal = 100; tallies = zeros 8 }
   pub untouched : renderOutput sloped 2 lone [] (9 ∷ []) ≡ 9 ∷ []
   pub unknown-colour : predictAnswer sloped 4294967295 half [] ≡ colourless 100 0
-  -- "another length is 6, after 1 to 4"
+  -- "another length is 6, after 1 to 4 and before 11"
   pub short-colour : predictAnswer listed 1 half [] ≡ colourless 6 0
   pub sloped-colour : predictAnswer sloped 1 half [] ≡ colourless 1 0
+  pub bad-colour : predictAnswer listed 1 half magentaUnset ≡ colourless 11 1

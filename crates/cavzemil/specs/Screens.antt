@@ -1,4 +1,4 @@
--- The structs of screens: the library's, and those that C lays out, field by field.
+-- The structs of screens: the library's, and those that C lays out, field by field, either way.
 -- Assumes nothing: these are definitions.
 use Rattle.screen.specs.declared.Screen as Screens
 use Rattle.screen.specs.declared.places.Place as Places
@@ -9,6 +9,9 @@ use Rattle.cavzemil.specs.declared.screens.Brick.{Brick}
 
 abbrev pub screenOf : Screen → Screens.Screen
 screenOf s = record { a = s .a; b = s .b; n = s .n; k = s .k; g = s .g }
+
+abbrev pub screenLaid : Screens.Screen → Screen
+screenLaid s = record { a = s .a; b = s .b; n = s .n; k = s .k; g = s .g }
 
 abbrev pub placeLaid : Places.Place → Place
 placeLaid p = record { refusal = p .refusal; phase = p .phase }

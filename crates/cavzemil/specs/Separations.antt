@@ -6,7 +6,6 @@ use lib.Dec.{eqb}
 use Rattle.arith.specs.Refusal.{unless}
 use Rattle.separation.specs.declared.Separation.{Separation}
 use Rattle.separation.specs.declared.Separation.the-variants.{Demichel, Kueppers}
-use Rattle.separation.specs.declared.Inks.{Inks}
 
 unfoldable pub known : ℕ → Bool
 known separation = eqb separation 0 || eqb separation 1
@@ -19,7 +18,3 @@ separationOf (suc number) = Kueppers
 -- the refusal of a call for a separation, given what the library refuses it as
 abbrev pub refusedFor : ℕ → ℕ → ℕ
 refusedFor separation refusal = unless (known separation) 100 refusal
-
--- ink values, passed as three numbers
-abbrev pub inksOf : ℕ → ℕ → ℕ → Inks
-inksOf c m y = record { c = c; m = m; y = y }

@@ -3,7 +3,7 @@
 use Prim.Native.Nat.{ℕ}
 use mathlib.Core.List.{List}
 use lib.ListN.{length}
-use Rattle.arith.specs.Run.{upto}
+use Rattle.arith.specs.Run.{zeros}
 use Rattle.arith.specs.Refusal.{answered, written}
 use Rattle.screen.specs.declared.Screen as Screens
 use Rattle.screen.specs.Phase.{placeRefusal}
@@ -29,7 +29,7 @@ renderingLaid r = record { refusal = r .refusal; tallies = r .tallies }
 
 -- the answer of a renderer to a number that no separation has
 abbrev pub unrendered : Rendering
-unrendered = record { refusal = 100; tallies = upto (λ j. 0) 8 }
+unrendered = record { refusal = 100; tallies = zeros 8 }
 
 -- ---- given the refusal
 

@@ -3,7 +3,7 @@ ghost use mathlib.Core.Path.{_≡_};
 ghost use Prim.Native.Nat.{_<_};
 ghost use lib.ListN.{length};
 ghost use Rattle.predict.specs.Paper.{paperOf};
-ghost use Rattle.cavzemil.specs.Separations.{inksOf};
+ghost use Rattle.separation.specs.Weights.{inksOf};
 ghost use Rattle.cavzemil.specs.Colours.{countsAnswer, primaryIn, primariesIn, paperLaid, colourless, predictAnswer};
 use crate::screens::Screen;
 use crate::screens::screen_of;

@@ -1,6 +1,7 @@
 // The number of a separation, and the ink values that it is for.
 ghost use mathlib.Core.Path.{_≡_};
-ghost use Rattle.cavzemil.specs.Separations.{known, separationOf, inksOf};
+ghost use Rattle.separation.specs.Weights.{inksOf};
+ghost use Rattle.cavzemil.specs.Separations.{known, separationOf};
 use separation::Inks;
 use separation::Separation;
 

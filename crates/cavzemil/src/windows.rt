@@ -1,6 +1,6 @@
 // Cells: that of a lone place, and those of a window by the two renderers.
 ghost use mathlib.Core.Path.{_≡_};
-ghost use Rattle.cavzemil.specs.Separations.{inksOf};
+ghost use Rattle.separation.specs.Weights.{inksOf};
 ghost use Rattle.cavzemil.specs.Windows.{windowOf, renderingLaid, unrendered, cellAnswer, renderAnswer, renderOutput, brickAnswer, brickOutput};
 use crate::screens::Screen;
 use crate::screens::screen_of;

@@ -16,7 +16,7 @@ use Rattle.separation.specs.declared.Separation.the-variants.{Demichel, Kuepper
 use Rattle.counts_text.specs.declared.parsers.PatchLine.{PatchLine}
 use Rattle.counts_text.specs.declared.parsers.PatchLine.the-variants.{PatchRead, PatchRefused}
 use Rattle.counts_text.specs.Text.{newline, lines, lineAt, fields}
-use Rattle.counts_text.specs.Lines.{areNumbers, numberAt, isScreen, screenIn, screenOf}
+use Rattle.counts_text.specs.Lines.{areNumbers, numberAt, isScreen, screenIn, screenBy}
 use Rattle.counts_text.specs.Program.{ended, lineRefusal}
 use Rattle.counts_text.specs.Parsers.{Parted, Patch, PatchSays, InksSays}
 use Rattle.counts_text.proofs.SplitLaws.{found-piece, found-none, found-some, parted-count}
@@ -62,11 +62,11 @@ module _ (text : List ℕ) (end : ℕ) (e : end ≡ indexOf newline text) where
       screen-unread n = screen-other (screen-headed (take end text) head .form ∙ n)
 
       module _ (of : List ℕ) (form : areNumbers 5 99999 (fields (drop 2 (take end text))) ≡ true) (values : of ≡ upto (numberAt (fields (drop 2 (take end text)))) 5) where
-        pub screen-is : screenOf (λ j. getD of j 0) ≡ screenIn (lineAt text 0)
+        pub screen-is : screenBy (λ j. getD of j 0) ≡ screenIn (lineAt text 0)
         unfolding upto
         screen-is = rw (line-is, screen-headed (take end text) head .values, values) refl
 
-        pub screen-judged : lineRefusal text 0 ≡ refusalOf (screenOf (λ j. getD of j 0))
+        pub screen-judged : lineRefusal text 0 ≡ refusalOf (screenBy (λ j. getD of j 0))
         screen-judged =
             first-screen text more (rw line-is (screen-headed (take end text) head .form ∙ form)) ∙ ap refusalOf (sym screen-is)
 

@@ -13,7 +13,7 @@ use Rattle.arith.proofs.RefusalLaws.{both-pass}
 use Rattle.separation.specs.declared.Separation.{Separation}
 use Rattle.separation.specs.declared.Separation.the-variants.{Demichel, Kueppers}
 use Rattle.counts_text.specs.Text.{split, tab, fields, fieldAt, same}
-use Rattle.counts_text.specs.Lines.{letterS, letterP, demichel, kueppers, areNumbers, numberAt, isScreen, screenIn, screenOf, isPatch, separationIn, inksIn, inksOf}
+use Rattle.counts_text.specs.Lines.{letterS, letterP, demichel, kueppers, areNumbers, numberAt, isScreen, screenIn, screenBy, isPatch, separationIn, inksIn, inksBy}
 use Rattle.counts_text.proofs.LineLaws.{number-count, same-true, first-word, begun}
 
 -- `S` and a tab; `P`, a separation's name and a tab after each
@@ -32,7 +32,7 @@ headP sep = letterP ∷ tab ∷ nameOf sep ++ tab ∷ []
 -- the fields after the head are those of the rest of the line
 pub record ScreenHeaded (line : List ℕ) : Type 0 where
   pub form : isScreen line ≡ areNumbers 5 99999 (fields (drop 2 line))
-  pub values : screenIn line ≡ screenOf (numberAt (fields (drop 2 line)))
+  pub values : screenIn line ≡ screenBy (numberAt (fields (drop 2 line)))
 
 known-screen : (rest : List ℕ) → ScreenHeaded (headS ++ rest)
 unfolding isScreen screenIn split same
@@ -54,7 +54,7 @@ screen-head line e =
 pub record PatchHeaded (sep : Separation) (line : List ℕ) : Type 0 where
   pub form : isPatch line ≡ areNumbers 3 255 (fields (drop 11 line))
   pub separation : separationIn line ≡ sep
-  pub values : inksIn line ≡ inksOf (numberAt (fields (drop 11 line)))
+  pub values : inksIn line ≡ inksBy (numberAt (fields (drop 11 line)))
 
 known-patch : (sep : Separation) (rest : List ℕ) → PatchHeaded sep (headP sep ++ rest)
 unfolding isPatch separationIn inksIn split same

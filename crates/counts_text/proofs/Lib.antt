@@ -1,5 +1,5 @@
+pub mod AllMarks
 pub mod Published
-pub mod Worked
 mod SplitLaws
 mod NumberLaws
 mod WroteLaws

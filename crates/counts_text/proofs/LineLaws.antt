@@ -3,19 +3,22 @@
 use Prim.Native.Nat.{ℕ, _-_, _≤_, _<_}
 use mathlib.Core.Path.{_≡_, refl, sym, ap, _∙_}
 use mathlib.Core.Bool.{Bool, true, false, not, false≢true}
-use mathlib.Core.List.{List, [], _∷_, _++_}
+use mathlib.Core.List.{List, [], _∷_, _++_, append-nil}
 use native.Mathlib.Omega.{arith}
 use lib.ListN.{length, getD, take, drop, take-append-drop, length-take}
+use lib.Seq.{drop-length}
 use lib.Dec.{eqb, leb}
-use borrow.Author.Tests.{eqb-true, leb-true, not-false}
+use borrow.Author.Tests.{eqb-true, leb-true}
 use Rattle.arith.proofs.RunLaws.{part-to-end}
 use Rattle.arith.specs.Every.{every}
 use Rattle.arith.specs.Run.{upto}
 use Rattle.arith.proofs.RefusalLaws.{both-pass, failed, passed}
 use Rattle.arith.proofs.EveryLaws.{every-passes}
+use Rattle.arith.proofs.FirstLaws.{first-none}
 use Rattle.counts_text.specs.Text.{tab, fields, fieldAt, same}
 use Rattle.counts_text.specs.Numbers.{isNumber, isNumberTo, valueOf}
-use Rattle.counts_text.specs.Lines.{areNumbers, numberAt}
+use Rattle.counts_text.specs.Lines.{areNumbers, numberAt, leading, numbersOver}
+use Rattle.counts_text.specs.Parsers.{NumbersRead}
 use Rattle.counts_text.proofs.SplitLaws.{split-front}
 
 -- the two halves of each test
@@ -32,25 +35,30 @@ module _ (many most : ℕ) (numbers : List (List ℕ)) (e : areNumbers many most
   pub number-count : length numbers ≡ many
   number-count = eqb-true (length numbers) many (count-and-each many most numbers e .0)
 
+  number-form : (j : ℕ) → j < many → isNumberTo most (getD numbers j []) ≡ true
+  number-form j l = every-passes many (λ i. isNumberTo most (getD numbers i [])) (count-and-each many most numbers e .1) j l
+
   pub number-limit : (j : ℕ) → j < many → numberAt numbers j ≤ most
-  number-limit j l =
-      let told = every-passes many (λ i. isNumberTo most (getD numbers i [])) (count-and-each many most numbers e .1) j l in
-      leb-true (numberAt numbers j) most (form-and-limit most (getD numbers j []) told .1)
+  number-limit j l = leb-true (numberAt numbers j) most (form-and-limit most (getD numbers j []) (number-form j l) .1)
+
+-- where fields are as many numbers as memory has room for, they take its place
+all-over : (most : ℕ) (numbers : List (List ℕ)) (memory : List ℕ) → areNumbers (length memory) most numbers ≡ true
+    → numbersOver most numbers memory ≡ upto (numberAt numbers) (length memory)
+unfolding numbersOver leading
+all-over most numbers memory e =
+    rw (first-none (length memory) (λ i. not (isNumberTo most (getD numbers i []))) (λ i l. ap not (number-form (length memory) most numbers e i l)), drop-length) (append-nil _)
 
 -- what is read of a line from a place on
-module _ (at many most : ℕ) (line of : List ℕ) (answer : Bool)
-    (form : answer ≡ areNumbers many most (fields (take (length line - at) (drop at line))))
-    (values : answer ≡ true → of ≡ upto (numberAt (fields (take (length line - at) (drop at line)))) many)
-  where
-    told : answer ≡ areNumbers many most (fields (drop at line))
-    told = rw (part-to-end line at) at form
+module _ (at : ℕ) (line : List ℕ) {most : ℕ} {before of : List ℕ} {answer : Bool} (part : NumbersRead most (take (length line - at) (drop at line)) before of answer) where
+  read : NumbersRead most (drop at line) before of answer
+  read = rw (part-to-end line at) at part
 
-    pub rest-failed : not answer ≡ true → areNumbers many most (fields (drop at line)) ≡ false
-    rest-failed n = failed told n
+  pub rest-failed : not answer ≡ true → areNumbers (length before) most (fields (drop at line)) ≡ false
+  rest-failed n = failed (read .form) n
 
-    pub rest-passed : not answer ≡ false
-        → (areNumbers many most (fields (drop at line)) ≡ true) × (of ≡ upto (numberAt (fields (drop at line))) many)
-    rest-passed n = (passed told n, rw (part-to-end line at) at (values (not-false answer n)))
+  pub rest-passed : not answer ≡ false
+      → (areNumbers (length before) most (fields (drop at line)) ≡ true) × (of ≡ upto (numberAt (fields (drop at line))) (length before))
+  rest-passed n = let form = passed (read .form) n in (form, read .memory ∙ all-over most (fields (drop at line)) before form)
 
 -- ---- how a line begins
 

@@ -1,5 +1,5 @@
 -- Laws of numbers as text. The numeral of a number up to 99,999 is a number as the program reads it, of 1 to 5 digits, and its value
--- is the number it was written from; a number that is read is at most 99,999, and the numeral of its value is the field it was read in.
+-- is the number it was written from; the numeral of the value of a number that is read is the field it was read in.
 -- The numeral's steps are bounded by the number itself, and more of them change nothing. So two equations say all of it, that of
 -- a number below 10 and that of a number from 10 on, and the laws follow by induction along the tenth part.
 -- Assumes nothing.
@@ -7,7 +7,7 @@ use Prim.Native.Nat.{ℕ, zero, suc, _+_, _-_, _*_, _/_, _%_, _^_, _≤_, _<_}
 use mathlib.Core.Path.{_≡_, refl, sym, ap, _∙_}
 use mathlib.Core.Bool.{true, false, not, _||_}
 use mathlib.Core.List.{List, [], _∷_, _++_}
-use native.Mathlib.Nat.{le-refl, lt-of-lt-of-le, pow-suc, pow-le-pow-right}
+use native.Mathlib.Nat.{le-refl, pow-suc, pow-le-pow-right}
 use native.Mathlib.Numerals.{add-one}
 use native.Mathlib.Decide.{decLt}
 use native.Mathlib.Omega.{arith}
@@ -223,21 +223,14 @@ module _ (field : List ℕ) (e : isNumber field ≡ true) where
   pub digit-to : (i : ℕ) → i < length field → getD field i 0 ≤ 57
   digit-to i h = digit-within (getD field i 0) (parts field e .digits i h) .1
 
-  -- at most k digits stand for a number below the k-th power of 10
-  value-within : (i k : ℕ) → i ≤ length field → i ≤ k → valueUpTo field i < 10 ^ k
-  value-within i k h l =
-      lt-of-lt-of-le (value-small field i (λ j m. parts field e .digits j (omega arith))) (pow-le-pow-right (omega arith) l)
-
-  -- the value is at most 99,999
-  pub value-five : valueOf field ≤ 99999
-  unfolding valueOf
-  value-five = omega (arith, value-within (length field) 5 (omega arith) (parts field e .few))
-
-  -- and before its last digit it is at most 9,999
+  -- before its last digit it is at most 9,999
   pub value-four : (i : ℕ) → i < length field → valueUpTo field i ≤ 9999
-  value-four i h = omega (arith, value-within i 4 (omega arith) (omega (arith, parts field e .few)))
+  value-four i h =
+      let few : i ≤ 4 = omega (arith, parts field e .few) in
+      let small : 10 ^ i ≤ 10 ^ 4 = pow-le-pow-right (omega arith) few in
+      omega (arith, value-small field i (λ j m. parts field e .digits j (omega arith)))
 
-  -- before its last digit it is not 0 either
+  -- and not 0
   value-some : (i : ℕ) → suc i < length field → 1 ≤ valueUpTo field (suc i)
   unfolding valueUpTo
   value-some zero h = omega (arith, parts field e .first h)

@@ -1,6 +1,6 @@
 -- Laws of `split`: a text is its first piece, the byte, and what the other pieces are of; by induction on the text.
 -- Assumes nothing.
-use Prim.Native.Nat.{ℕ, suc, _+_, _-_, _≤_, _<_}
+use Prim.Native.Nat.{ℕ, suc, _+_, _≤_, _<_}
 use mathlib.Core.Path.{_≡_, refl, sym, ap, _∙_}
 use mathlib.Core.Bool.{Bool, true, false}
 use mathlib.Core.List.{List, [], _∷_, _++_}
@@ -77,9 +77,6 @@ module _ (b : ℕ) (text : List ℕ) where
       go (inl e) = rw (split-none b text e) (omega arith)
       go (inr l) = rw (split-some b text l) (omega arith)
 
-  parted : indexOf b text < length text → Parted b text (indexOf b text + 1)
-  parted l = record { within = omega arith; rest = rw (split-some b text l, add-one) refl }
-
   -- a text of several pieces is the first of them, the byte, and what the others are of
   pub split-front : 1 < length (split b text)
       → (rest : List ℕ) × (text ≡ getD (split b text) 0 [] ++ b ∷ rest) × (drop 1 (split b text) ≡ split b rest)
@@ -103,7 +100,15 @@ module _ (b : ℕ) (text : List ℕ) (end : ℕ) (e : end ≡ indexOf b text) wh
   found-none h = one-piece b text (sym e ∙ h)
 
   pub found-some : end ≤ length text → (end ≡ length text → ⊥) → Parted b text (end + 1)
-  found-some h n = rw e (parted b text (omega (arith, e, h, n)))
+  found-some h n = record { ended = omega (arith, e, h, n); place = ap (λ (i : ℕ). i + 1) e }
+
+-- the other pieces are those of the text after the first
+pub parted-rest : (b : ℕ) (text : List ℕ) (left : ℕ) → Parted b text left → drop 1 (split b text) ≡ split b (drop left text)
+parted-rest b text left p = rw (split-some b text (p .ended), p .place, add-one) refl
+
+-- of which there is one
+pub parted-count : (b : ℕ) (text : List ℕ) (left : ℕ) → Parted b text left → 1 < length (split b text)
+parted-count b text left p = rw (split-some b text (p .ended)) (omega (arith, some-piece b (drop (suc (indexOf b text)) text)))
 
 -- ---- a walk over the pieces: piece i begins at place `at`
 pub record Reached (b : ℕ) (text : List ℕ) (at i : ℕ) : Type 0 where
@@ -124,14 +129,9 @@ module _ {b : ℕ} {text : List ℕ} {at i : ℕ} (here : Reached b text at i) w
   pub reached-next : (left : ℕ) → Parted b (drop at text) left → Reached b text (at + left) (i + 1)
   reached-next left p =
       record {
-        within = omega (arith, p .within, length-drop at text, here .within);
-        rest = sym (drop-drop 1 i (split b text)) ∙ rw (here .rest, p .rest, drop-drop);
+        within = omega (arith, p .ended, p .place, length-drop at text, here .within);
+        rest = sym (drop-drop 1 i (split b text)) ∙ rw (here .rest, parted-rest b (drop at text) left p, drop-drop);
       }
-
--- a piece that ends before the text does is not the last
-pub parted-count : (b : ℕ) (text : List ℕ) (left : ℕ) → Parted b text left → 1 < length (split b text)
-parted-count b text left p =
-    omega (arith, length-drop 1 (split b text), ap (λ (pieces : List (List ℕ)). length pieces) (p .rest), some-piece b (drop left text))
 
 -- a text of one piece is that piece
 pub only-piece : (b : ℕ) (text : List ℕ) → length (split b text) ≡ 1 → getD (split b text) 0 [] ≡ text
@@ -139,4 +139,4 @@ only-piece b text e = go (eq-or-lt-of-le (index-within b text))
   where
     go : (indexOf b text ≡ length text) ⊎ (indexOf b text < length text) → getD (split b text) 0 [] ≡ text
     go (inl q) = rw (split-none b text q) refl
-    go (inr l) = absurd (omega (arith, parted-count b text (indexOf b text + 1) (parted b text l)))
+    go (inr l) = absurd (omega (arith, parted-count b text _ (record { ended = l; place = refl })))

@@ -9,13 +9,13 @@ use Rattle.screen.specs.declared.Screen.{Screen}
 use Rattle.screen.specs.Screens.{Admitted}
 use Rattle.quantiser.specs.Running.{countsOf}
 use Rattle.counts_text.specs.Text.{lines}
-use Rattle.counts_text.specs.Numbers.{isNumber, valueOf, numeral}
+use Rattle.counts_text.specs.Numbers.{greatest, isNumber, valueOf, numeral}
 use Rattle.counts_text.specs.Lines.{letterC, separationIn, inksIn, lineOf, countsLine, errorLine}
 use Rattle.counts_text.specs.Program.{lineRefusal, firstBad, countsText}
 
 -- writing a number and reading it back gives the number
 abbrev pub NumberBack : Type 0
-NumberBack = (v : ℕ) → v ≤ 99999 → (isNumber (numeral v) ≡ true) × (valueOf (numeral v) ≡ v)
+NumberBack = (v : ℕ) → v ≤ greatest → (isNumber (numeral v) ≡ true) × (valueOf (numeral v) ≡ v)
 
 -- and reading a number and writing it back gives the field
 abbrev pub FieldBack : Type 0
@@ -32,6 +32,10 @@ ErrorAlone =
     (text : List ℕ) → length text ≤ 65536 → firstBad text < length (lines text)
     → countsText text ≡ errorLine (suc (firstBad text)) (lineRefusal text (firstBad text))
 
--- whatever is read, what is written fits the lent array
+-- the bytes of the array that is lent
+abbrev pub room : ℕ
+room = 16384
+
+-- whatever is read, what is written fits it
 abbrev pub OutputFits : Type 0
-OutputFits = (text : List ℕ) → length (countsText text) ≤ 16384
+OutputFits = (text : List ℕ) → length (countsText text) ≤ room

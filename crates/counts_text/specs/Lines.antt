@@ -1,21 +1,23 @@
 -- Document 01, 'Counts program': what a line holds, and what refuses it.
 -- Assumes nothing: these are definitions.
 use Prim.Native.Nat.{ℕ}
-use mathlib.Core.Bool.{Bool, cond, _&&_, _||_}
+use mathlib.Core.Bool.{Bool, cond, not, _&&_, _||_}
 use mathlib.Core.List.{List, [], _∷_, _++_}
 use lib.Dec.{eqb}
 use lib.ListN.{length, getD, drop}
 use Rattle.arith.specs.Every.{every}
+use Rattle.arith.specs.First.{firstBelow}
 use Rattle.arith.specs.Refusal.{unless}
 use Rattle.arith.specs.Run.{upto}
 use Rattle.screen.specs.declared.Screen.{Screen}
-use Rattle.screen.specs.Screens.{refusalOf}
+use Rattle.screen.specs.Screens.{screenOf, refusalOf}
 use Rattle.separation.specs.declared.Separation.{Separation}
 use Rattle.separation.specs.declared.Separation.the-variants.{Demichel, Kueppers}
 use Rattle.separation.specs.declared.Inks.{Inks}
+use Rattle.separation.specs.Weights.{inksOf}
 use Rattle.quantiser.specs.Running.{count}
 use Rattle.counts_text.specs.Text.{newline, tab, fields, fieldAt, same, joined}
-use Rattle.counts_text.specs.Numbers.{isNumberTo, valueOf, numeral}
+use Rattle.counts_text.specs.Numbers.{greatest, isNumberTo, valueOf, numeral}
 
 -- the letters S, P, C and E
 abbrev pub letterS : ℕ
@@ -45,15 +47,25 @@ areNumbers many most numbers = eqb (length numbers) many && every many (λ i. is
 abbrev pub numberAt : List (List ℕ) → ℕ → ℕ
 numberAt numbers i = valueOf (getD numbers i [])
 
--- "Line 1: the letter S, then a, b, N, K, g." (99,999 is the greatest number of 5 digits.)
-unfoldable pub isScreen : List ℕ → Bool
-isScreen line = same (fieldAt line 0) (letterS ∷ []) && areNumbers 5 99999 (drop 1 (fields line))
+-- of the first so many fields, how many come before one that is no number or is above the limit
+unfoldable pub leading : ℕ → ℕ → List (List ℕ) → ℕ
+leading many most numbers = firstBelow many (λ i. not (isNumberTo most (getD numbers i [])))
 
-abbrev pub screenOf : (ℕ → ℕ) → Screen
-screenOf number = record { a = number 0; b = number 1; n = number 2; k = number 3; g = number 4 }
+-- memory with the numbers of these fields written over its first places
+unfoldable pub numbersOver : ℕ → List (List ℕ) → List ℕ → List ℕ
+numbersOver most numbers memory =
+    let taken = leading (length memory) most numbers in
+    upto (numberAt numbers) taken ++ drop taken memory
+
+-- "Line 1: the letter S, then a, b, N, K, g."
+unfoldable pub isScreen : List ℕ → Bool
+isScreen line = same (fieldAt line 0) (letterS ∷ []) && areNumbers 5 greatest (drop 1 (fields line))
+
+abbrev pub screenBy : (ℕ → ℕ) → Screen
+screenBy number = screenOf (number 0) (number 1) (number 2) (number 3) (number 4)
 
 unfoldable pub screenIn : List ℕ → Screen
-screenIn line = screenOf (numberAt (drop 1 (fields line)))
+screenIn line = screenBy (numberAt (drop 1 (fields line)))
 
 -- "P, `demichel` or `kueppers`, c, m, y", "ink values are at most 255"
 unfoldable pub isPatch : List ℕ → Bool
@@ -64,11 +76,11 @@ isPatch line =
 unfoldable pub separationIn : List ℕ → Separation
 separationIn line = cond (same (fieldAt line 1) demichel) Demichel Kueppers
 
-abbrev pub inksOf : (ℕ → ℕ) → Inks
-inksOf number = record { c = number 0; m = number 1; y = number 2 }
+abbrev pub inksBy : (ℕ → ℕ) → Inks
+inksBy number = inksOf (number 0) (number 1) (number 2)
 
 unfoldable pub inksIn : List ℕ → Inks
-inksIn line = inksOf (numberAt (drop 2 (fields line)))
+inksIn line = inksBy (numberAt (drop 2 (fields line)))
 
 -- "10 is tested before 1 to 4 within a line"
 unfoldable pub screenRefusal : List ℕ → ℕ

@@ -20,6 +20,10 @@ isNumber field =
     leb 1 (length field) && leb (length field) 5 && every (length field) (λ i. isDigit (getD field i 0))
     && (eqb (length field) 1 || not (eqb (getD field 0 0) zeroDigit))
 
+-- the greatest number of 5 digits
+abbrev pub greatest : ℕ
+greatest = 99999
+
 -- the number that the first i digits of a field stand for
 unfoldable pub valueUpTo : List ℕ → ℕ → ℕ
 valueUpTo field zero = 0

@@ -3,9 +3,10 @@
 -- Assumes nothing.
 use Prim.Native.Nat.{ℕ, suc, _+_, _≤_, _<_}
 use mathlib.Core.Path.{_≡_}
-use mathlib.Core.Bool.{true, false}
+use mathlib.Core.Bool.{Bool, true, false}
 use mathlib.Core.List.{List}
 use lib.ListN.{length, drop}
+use Rattle.bytes.specs.Bytes.{indexOf}
 use Rattle.screen.specs.Screens.{Admitted}
 use Rattle.separation.specs.declared.Separation.{Separation}
 use Rattle.counts_text.specs.declared.parsers.Field.{Field}
@@ -16,15 +17,15 @@ use Rattle.counts_text.specs.declared.parsers.PatchLine.{PatchLine}
 use Rattle.counts_text.specs.declared.parsers.PatchLine.the-variants.{PatchRead, PatchRefused}
 use Rattle.counts_text.specs.declared.judging.Verdict.{Verdict}
 use Rattle.counts_text.specs.declared.judging.Verdict.the-variants.{Good, Bad}
-use Rattle.counts_text.specs.Text.{split, newline, tab, lines, fields, lineAt, fieldAt}
+use Rattle.counts_text.specs.Text.{newline, tab, lines, fields, lineAt, fieldAt}
 use Rattle.counts_text.specs.Numbers.{isNumberTo, valueOf}
-use Rattle.counts_text.specs.Lines.{areNumbers, numberAt, isPatch, screenIn, separationIn, inksIn, inksOf}
+use Rattle.counts_text.specs.Lines.{areNumbers, numberAt, numbersOver, isPatch, screenIn, separationIn, inksIn, inksBy}
 use Rattle.counts_text.specs.Program.{ended, lineRefusal, firstBad}
 
--- a text's first piece ends before place `left`, and the other pieces are those of the text from there on
+-- a byte ends a text's first piece, and `left` is the place after it
 pub record Parted (byte : ℕ) (text : List ℕ) (left : ℕ) : Type 0 where
-  pub within : left ≤ length text
-  pub rest : drop 1 (split byte text) ≡ split byte (drop left text)
+  pub ended : indexOf byte text < length text
+  pub place : left ≡ indexOf byte text + 1
 
 -- ---- a number at the beginning of the rest of a line
 pub record NumberRead (most : ℕ) (text : List ℕ) (v : ℕ) : Type 0 where
@@ -35,6 +36,11 @@ abbrev pub FieldRead : ℕ → List ℕ → Field → Type 0
 FieldRead most text (More v left) = NumberRead most text v × Parted tab text left
 FieldRead most text (Last v) = NumberRead most text v × (length (fields text) ≡ 1)
 FieldRead most text NoNumber = isNumberTo most (fieldAt text 0) ≡ false
+
+-- the numbers at its beginning, read into memory, and whether they are all of the line and fill the memory
+pub record NumbersRead (most : ℕ) (text before after : List ℕ) (r : Bool) : Type 0 where
+  pub form : r ≡ areNumbers (length before) most (fields text)
+  pub memory : after ≡ numbersOver most (fields text) before
 
 -- ---- the first line of a text
 abbrev pub ScreenSays : List ℕ → ScreenLine → Type 0
@@ -53,7 +59,7 @@ PatchSays text PatchRefused = Patch text → ⊥
 -- the ink values of a P line, from place 11 on
 abbrev pub InksSays : Separation → List ℕ → ℕ → PatchLine → Type 0
 InksSays sep line left (PatchRead sepRead inks leftRead) =
-    (sepRead ≡ sep) × (inks ≡ inksOf (numberAt (fields (drop 11 line)))) × (leftRead ≡ left) × (areNumbers 3 255 (fields (drop 11 line)) ≡ true)
+    (sepRead ≡ sep) × (inks ≡ inksBy (numberAt (fields (drop 11 line)))) × (leftRead ≡ left) × (areNumbers 3 255 (fields (drop 11 line)) ≡ true)
 InksSays sep line left PatchRefused = areNumbers 3 255 (fields (drop 11 line)) ≡ false
 
 -- ---- the whole text: a screen, where its P lines begin and how many there are; or the first bad line's number and what refuses it

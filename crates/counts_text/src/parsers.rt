@@ -2,13 +2,10 @@
 // on after it, or that it is not of the form.
 ghost use mathlib.Core.Path.{_≡_};
 ghost use mathlib.Core.Bool.{true};
-ghost use Prim.Native.Nat.{_≤_, _<_};
+ghost use Prim.Native.Nat.{_≤_};
 ghost use lib.ListN.{length, take};
 ghost use Rattle.bytes.specs.Bytes.{indexOf};
-ghost use Rattle.arith.specs.Run.{upto};
-ghost use Rattle.counts_text.specs.Text.{fields};
-ghost use Rattle.counts_text.specs.Lines.{areNumbers, numberAt};
-ghost use Rattle.counts_text.specs.Parsers.{FieldRead, ScreenSays, PatchSays, InksSays};
+ghost use Rattle.counts_text.specs.Parsers.{FieldRead, NumbersRead, ScreenSays, PatchSays, InksSays};
 use crate::numbers::is_number;
 use crate::numbers::value_of;
 use screen::Screen;
@@ -60,29 +57,27 @@ fn first_number(text: &[u8], most: u32) -> Field
     Field::More(value, end + 1)
 }
 
-// Whether the fields of the rest of a line are as many numbers as there is room for, none above a limit.
-// They are then in `of`.
+// Reads the numbers, none above a limit, that the rest of a line begins with, as far as there is room for
+// them. Answers whether the line has these fields alone and they fill the room.
 fn numbers(text: &[u8], most: u32, of: &mut [u32]) -> bool
-    requires { ⌜ 0 < length (now of) ⌝ }
-    ensures form { λ r. ⌜ r ≡ areNumbers (length (now (of .entry))) most (fields (now (text .entry))) ⌝ }
-    ensures values { λ r. ⌜ (r ≡ true → now (of .exit) ≡ upto (numberAt (fields (now (text .entry)))) (length (now (of .entry)))) ⌝ }
+    ensures { λ r. ⌜ NumbersRead most (now (text .entry)) (now (of .entry)) (now (of .exit)) r ⌝ }
 {
-    let last = of.len() - 1;
     let mut at = 0;
-    for i in 0..last {
+    for i in 0..of.len() {
         let found = first_number(&text[at..], most);
-        let Field::More(value, left) = found else {
-            return false;
-        };
-        of[i] = value;
-        at += left;
+        match found {
+            Field::NoNumber => return false,
+            Field::Last(value) => {
+                of[i] = value;
+                return i + 1 == of.len();
+            }
+            Field::More(value, left) => {
+                of[i] = value;
+                at += left;
+            }
+        }
     }
-    let found = first_number(&text[at..], most);
-    let Field::Last(value) = found else {
-        return false;
-    };
-    of[last] = value;
-    true
+    false
 }
 
 // Whether a text begins with a run of bytes.

@@ -2,7 +2,6 @@
 -- Assumes nothing.
 use Prim.Native.Nat.{ℕ, suc, _+_, _≤_, _<_}
 use mathlib.Core.Path.{_≡_, sym, ap, _∙_}
-use mathlib.Core.Bool.{Bool, true, false}
 use native.Mathlib.Decide.{ℕ-discrete, decLt}
 use native.Mathlib.Omega.{arith}
 use lib.Dec.{eqb}
@@ -11,11 +10,6 @@ use Rattle.arith.specs.First.{firstBelow}
 use Rattle.arith.specs.Sum.{sumBelow, indicator}
 use Rattle.arith.proofs.FirstLaws.{first-passes, first-counted}
 use Rattle.arith.proofs.SumLaws.{indicator-one, indicator-none, sum-same, sum-fewer}
-
--- a test counts at most once
-pub indicator-most : (test : Bool) → indicator test ≤ 1
-indicator-most true = omega arith
-indicator-most false = omega arith
 
 module _ (f : ℕ → ℕ) where
   -- one term, and two terms, come to no more than the sum

@@ -12,9 +12,9 @@ use mir.Val.{boolByte}
 use borrow.Author.Tests.{lt-ltb, le-ltb}
 use Rattle.arith.specs.Sum.{sumBelow, indicator}
 use Rattle.arith.proofs.SumLaws.{sum-split, sum-constant}
+use Rattle.arith.proofs.TallyLaws.{indicator-le}
 use Rattle.plates.specs.Masks.{mask}
 use Rattle.plates.specs.Planes.{inPlane, masksUpTo, planeByte}
-use Rattle.plates.proofs.BitLaws.{indicator-most}
 use Rattle.plates.proofs.MaskLaws.{byte-room}
 
 as-number : (t : Bool) → boolByte t ≡ indicator t
@@ -60,7 +60,7 @@ module _ {columns : ℕ} {cell : ℕ → ℕ} {p b pixels byte t : ℕ} (s : Byt
             arith,
             byte-part,
             s .sum,
-            byte-room b (λ i. indicator (inPlane columns cell p (8 * b + i))) (λ i. indicator-most (inPlane columns cell p (8 * b + i))) t (omega (arith, s .eight)),
+            byte-room b (λ i. indicator (inPlane columns cell p (8 * b + i))) (λ i. indicator-le (inPlane columns cell p (8 * b + i))) t (omega (arith, s .eight)),
           )
 
       pub byte-next : ByteAt columns cell p b pixels (byte + boolByte has * mask (8 * b + t)) (t + 1)

@@ -1,4 +1,5 @@
 pub mod Published
+pub mod AllMarks
 mod MaskLaws
 mod PlaceLaws
 mod BitLaws

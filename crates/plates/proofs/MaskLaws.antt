@@ -25,7 +25,7 @@ each P a b c d e f g h (suc (suc (suc (suc (suc (suc zero)))))) l = g
 each P a b c d e f g h (suc (suc (suc (suc (suc (suc (suc zero))))))) l = h
 each P a b c d e f g h (suc (suc (suc (suc (suc (suc (suc (suc t)))))))) l = absurd (omega arith)
 
-pub mask-repeats : (b t : ℕ) → mask (8 * b + t) ≡ mask t
+mask-repeats : (b t : ℕ) → mask (8 * b + t) ≡ mask t
 unfolding mask
 mask-repeats b t = rw (mul-add-mod-self-left 8 b t)
 

@@ -8,17 +8,19 @@ use mathlib.Core.Logic.{_⊎_, inl, inr}
 use native.Mathlib.Nat.{div-add-mod'}
 use native.Mathlib.Decide.{ℕ-discrete}
 use native.Mathlib.Omega.{arith}
+use lib.Arith.{digits-lt}
 use lib.Dec.{eqb, leb}
 use lib.ListN.{length, getD}
 use borrow.Author.Tests.{leb-false, lt-leb, eqb-false, ne-eqb}
 use Rattle.arith.specs.Refusal.{unless, orElse}
 use Rattle.arith.proofs.RefusalLaws.{refused-first, refused-later}
 use Rattle.arith.specs.Every.{every}
+use Rattle.arith.specs.Sheet.{onSheet}
 use Rattle.plates.specs.Planes.{rowBytes, bitAt, planesWith, colorantsOnly, pixelsOnce, paddingClear}
-use Rattle.plates.specs.Refusals.{onSheet, lengthsRefusal, sizeRefusal, packSize, unpackSize, packRefusal, unpackRefusal}
+use Rattle.plates.specs.Refusals.{lengthsRefusal, sizeRefusal, packSize, unpackSize, packRefusal, unpackRefusal}
 use Rattle.plates.specs.Laws.{BadByte, PackNine, BadPixel, BadPadding, UnpackNine}
 use Rattle.arith.proofs.EveryLaws.{every-fails, every-offender}
-use Rattle.plates.proofs.PlaceLaws.{plane-row, plane-of, row-in-plane}
+use Rattle.plates.proofs.PlaceLaws.{plane-of, row-in-plane}
 use Rattle.plates.proofs.PlaneLaws.{bit-most}
 
 -- ---- 9 comes after the sizes
@@ -45,7 +47,7 @@ nine-late columns rows input stated output due test e = go (ℕ-discrete size 0)
 
     go : Dec (size ≡ 0) → (size ≡ 0) × (test ≡ false)
     go (yes z) = (z, fails test (sym (refused-later size (unless test 9 0) z) ∙ e))
-    go (no h) = absurd (size-no-nine (onSheet columns rows) (eqb input stated) (eqb output due) (sym (refused-first size (unless test 9 0) h) ∙ e))
+    go (no h) = absurd (size-no-nine (onSheet 0 0 columns rows) (eqb input stated) (eqb output due) (sym (refused-first size (unless test 9 0) h) ∙ e))
 
 nine-due : (size : ℕ) (test : Bool) → size ≡ 0 → test ≡ false → orElse size (unless test 9 0) ≡ 9
 nine-due size test z e = refused-later size (unless test 9 0) z ∙ rw e
@@ -103,7 +105,7 @@ module _ (columns rows : ℕ) (planes : List ℕ) where
       let from : columns ≤ x = b .5 in
       let past : x < 8 * rowBytes columns = b .6 in
       let here : columns + (x - columns) ≡ x = omega arith in
-      every-fails (8 * rows) _ (b .0 * rows + b .1) (plane-row rows (b .0) (b .1) (b .3) (b .4))
+      every-fails (8 * rows) _ (b .0 * rows + b .1) (digits-lt (b .3) (b .4))
       (every-fails (8 * rowBytes columns - columns) _ (x - columns) (omega arith) (rw (here, b .7)))
 
   which : pixelsOnce columns rows planes && paddingClear columns rows planes ≡ false → BadPixel columns rows planes ⊎ BadPadding columns rows planes

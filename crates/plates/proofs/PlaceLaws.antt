@@ -1,31 +1,14 @@
--- Where the rows of the planes stand, and that a pixel's byte is one of its row.
+-- Where the rows of the planes stand.
 -- Assumes nothing.
 use Prim.Native.Nat.{ℕ, zero, suc, _+_, _*_, _/_, _%_, _≤_, _<_}
 use mathlib.Core.Path.{_≡_}
 use native.Mathlib.Nat.{mul-le-mul, mod-lt, div-lt-iff-lt-mul}
 use native.Mathlib.Omega.{arith}
-use lib.Arith.{digits-lt}
 use Rattle.plates.specs.Planes.{rowBytes}
-
--- row y of plane p is one of the 8 * rows rows of the planes
-pub plane-row : (rows p y : ℕ) → p < 8 → y < rows → p * rows + y < 8 * rows
-plane-row rows p y k l = digits-lt k l
-
--- byte b of row r is one of the n * bytes bytes of n rows
-pub row-place : (n bytes r b : ℕ) → r < n → b < bytes → r * bytes + b < n * bytes
-row-place n bytes r b k l = digits-lt k l
 
 -- the bytes of row r end where those of the next begin, within n rows
 pub row-ends : (n bytes r : ℕ) → r < n → r * bytes + bytes ≤ n * bytes
 row-ends n bytes r k = omega (arith, mul-le-mul {n₁ = r + 1} {m₁ = bytes} {n₂ = n} {m₂ = bytes} (omega arith) (omega arith))
-
--- a column's byte is one of its row
-pub column-byte : (columns x : ℕ) → x < columns → x / 8 < rowBytes columns
-column-byte columns x l = omega arith
-
--- and its row has room for the columns
-pub columns-fit : (columns : ℕ) → columns ≤ 8 * rowBytes columns
-columns-fit columns = omega arith
 
 -- place i of rows of so many columns is in one of the rows, at one of the columns
 columns-some : (columns rows i : ℕ) → i < columns * rows → 0 < columns
@@ -45,9 +28,6 @@ plane-of rows r l = div-lt-iff-lt-mul {k = rows} (omega arith) .1 l
 pub row-in-plane : (rows r : ℕ) → r < 8 * rows → r % rows < rows
 row-in-plane rows r l = mod-lt r (omega arith)
 
--- a window on the sheet has few enough cells, and planes of few enough bytes
-pub cells-few : (columns rows : ℕ) → columns ≤ 65536 → rows ≤ 65536 → columns * rows ≤ 65536 * 65536
-cells-few columns rows h k = mul-le-mul h k
-
+-- a window on the sheet has planes of few enough bytes
 pub planes-few : (columns rows : ℕ) → columns ≤ 65536 → rows ≤ 65536 → (bytes : ℕ) → bytes ≡ rowBytes columns → 8 * rows * bytes ≤ 8 * 65536 * 8192
 planes-few columns rows h k bytes e = mul-le-mul {n₁ = 8 * rows} {m₁ = bytes} {n₂ = 8 * 65536} {m₂ = 8192} (omega arith) (omega arith)

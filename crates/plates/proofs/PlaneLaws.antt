@@ -7,7 +7,7 @@ use mathlib.Core.List.{List}
 use native.Mathlib.Nat.{mul-comm, div-add-mod'}
 use native.Mathlib.Decide.{decLt}
 use native.Mathlib.Omega.{arith}
-use lib.Arith.{digits-div, digits-mod}
+use lib.Arith.{digits-div, digits-mod, digits-lt}
 use lib.Dec.{eqb}
 use lib.ListN.{length, getD}
 use lib.Seq.{ext-getD}
@@ -17,14 +17,14 @@ use Rattle.arith.specs.Sum.{sumBelow, indicator}
 use Rattle.arith.proofs.FirstLaws.{first-is}
 use Rattle.arith.proofs.RunLaws.{upto-length, upto-at}
 use Rattle.arith.proofs.SumLaws.{indicator-one, indicator-none, sum-same, sum-constant, sum-split, sum-blocks, sum-met}
-use Rattle.arith.proofs.TallyLaws.{tally-places}
+use Rattle.arith.proofs.TallyLaws.{indicator-le, tally-places}
 use Rattle.plates.specs.Masks.{mask, bit}
 use Rattle.plates.specs.Planes.{rowBytes, planesLength, cellsLength, cellAt, bitAt, inPlane, planeByte, planesByte, planesOf, planesWith, colorantOf, cellsOf, colorantsOnly, pixelsOnce, paddingClear}
 use Rattle.plates.specs.Laws.{PlaneBit, bitsSet, PlaneTally, Admitted, CellsBack, PlanesBack, UnpackedTally}
 use Rattle.arith.proofs.EveryLaws.{every-passes, every-made}
 use Rattle.plates.proofs.MaskLaws.{bit-of-sum, sum-of-bits}
-use Rattle.plates.proofs.PlaceLaws.{plane-row, row-place, columns-fit, place-row, place-column, plane-of, row-in-plane}
-use Rattle.plates.proofs.BitLaws.{indicator-most, first-below, first-is-it}
+use Rattle.plates.proofs.PlaceLaws.{place-row, place-column, plane-of, row-in-plane}
+use Rattle.plates.proofs.BitLaws.{first-below, first-is-it}
 
 -- ---- the bits of the planes of cells
 
@@ -33,7 +33,7 @@ module _ (columns rows : ℕ) (cells : List ℕ) (p y : ℕ) (plane : p < 8) (ro
       → getD (planesOf columns rows cells) ((p * rows + y) * rowBytes columns + b) 0 ≡ planeByte columns (cellAt columns cells y) p b
   unfolding planesOf planesByte
   byte-at b l =
-      upto-at _ (planesLength columns rows) _ (row-place (8 * rows) (rowBytes columns) (p * rows + y) b (plane-row rows p y plane row) l)
+      upto-at _ (planesLength columns rows) _ (digits-lt (digits-lt plane row) l)
       ∙ ap₂ (λ (r c : ℕ). planeByte columns (cellAt columns cells (r % rows)) (r / rows) c) (digits-div (p * rows + y) l) (digits-mod (p * rows + y) l)
       ∙ ap₂ (λ (u v : ℕ). planeByte columns (cellAt columns cells u) v b) (digits-mod p row) (digits-div p row)
 
@@ -47,11 +47,11 @@ module _ (columns rows : ℕ) (cells : List ℕ) (p y : ℕ) (plane : p < 8) (ro
       (λ (z : ℕ). bit (sumBelow 8 (λ t. indicator (inPlane columns (cellAt columns cells y) p (8 * (x / 8) + t)) * mask (8 * (x / 8) + t))) z
       ≡ indicator (inPlane columns (cellAt columns cells y) p z))
       whole
-      (bit-of-sum (x / 8) (λ t. indicator (inPlane columns (cellAt columns cells y) p (8 * (x / 8) + t))) (λ t. indicator-most (inPlane columns (cellAt columns cells y) p (8 * (x / 8) + t))) (x % 8) (omega arith))
+      (bit-of-sum (x / 8) (λ t. indicator (inPlane columns (cellAt columns cells y) p (8 * (x / 8) + t))) (λ t. indicator-le (inPlane columns (cellAt columns cells y) p (8 * (x / 8) + t))) (x % 8) (omega arith))
 
   -- of a column, and of the padding
   bit-inside : (x : ℕ) → x < columns → bitAt (rowBytes columns) (planesOf columns rows cells) (p * rows + y) x ≡ indicator (eqb (cellAt columns cells y x) p)
-  bit-inside x l = bit-of x (omega (arith, columns-fit columns)) ∙ rw (lt-ltb x columns l)
+  bit-inside x l = bit-of x (omega arith) ∙ rw (lt-ltb x columns l)
 
   bit-padding : (t : ℕ) → t < 8 * rowBytes columns - columns → bitAt (rowBytes columns) (planesOf columns rows cells) (p * rows + y) (columns + t) ≡ 0
   bit-padding t l = bit-of (columns + t) (omega arith) ∙ rw (le-ltb (columns + t) columns (omega arith))
@@ -78,7 +78,7 @@ plane-tally columns rows cells size p k =
     ∙ sym (tally-places p cells)
   where
     width : (columns : ℕ) → 8 * rowBytes columns ≡ columns + (8 * rowBytes columns - columns)
-    width columns = omega (arith, columns-fit columns)
+    width columns = omega arith
 
 -- ---- from cells to planes and back
 
@@ -86,7 +86,7 @@ module _ (columns rows : ℕ) (cells : List ℕ) (size : length cells ≡ cellsL
   colorant-below : (y x : ℕ) → y < rows → x < columns → cellAt columns cells y x < 8
   unfolding colorantsOnly
   colorant-below y x k l =
-      let within : y * columns + x < length cells = omega (arith, row-place rows columns y x k l) in
+      let within : y * columns + x < length cells = omega (arith, digits-lt k l) in
       omega (arith, leb-true (cellAt columns cells y x) 7 (every-passes (length cells) _ only (y * columns + x) within))
 
   -- each pixel is in the one plane of its cell
@@ -153,7 +153,7 @@ module _ (columns rows : ℕ) (planes : List ℕ) (a : Admitted columns rows pla
     cell-of : (x : ℕ) → x < columns → cellAt columns (cellsOf columns rows planes) y x ≡ colorantOf (rowBytes columns) rows planes y x
     unfolding cellsOf
     cell-of x l =
-        upto-at _ (cellsLength columns rows) (y * columns + x) (omega (arith, row-place rows columns y x row l))
+        upto-at _ (cellsLength columns rows) (y * columns + x) (omega (arith, digits-lt row l))
         ∙ ap₂ (colorantOf (rowBytes columns) rows planes) (digits-div y l) (digits-mod y l)
 
     -- each bit comes back, of a column and of the padding
@@ -168,7 +168,7 @@ module _ (columns rows : ℕ) (planes : List ℕ) (a : Admitted columns rows pla
             (first-is-it (λ q. bitAt (rowBytes columns) planes (q * rows + y) x) (λ q. bit-most (rowBytes columns) planes (q * rows + y) x) 8 (in-one x l) p k)
         go (no l) =
             let past : columns + (x - columns) ≡ x = omega arith in
-            let none : bitAt (rowBytes columns) planes (p * rows + y) (columns + (x - columns)) ≡ 0 = eqb-true _ 0 (every-passes (8 * rowBytes columns - columns) _ (every-passes (8 * rows) _ (a .clear) (p * rows + y) (plane-row rows p y k row)) (x - columns) (omega arith)) in
+            let none : bitAt (rowBytes columns) planes (p * rows + y) (columns + (x - columns)) ≡ 0 = eqb-true _ 0 (every-passes (8 * rowBytes columns - columns) _ (every-passes (8 * rows) _ (a .clear) (p * rows + y) (digits-lt k row)) (x - columns) (omega arith)) in
             rw (le-ltb x columns (omega arith)) (sym (rw past at none))
 
     byte-back : (p b : ℕ) → p < 8 → b < rowBytes columns

@@ -6,31 +6,10 @@ use Prim.Native.Nat.{ℕ}
 use lib.ListN.{length}
 use Rattle.arith.proofs.RunLaws.{upto-length}
 use Rattle.plates.specs.Planes.{planesLength, cellsLength, planesOf, cellsOf}
-use Rattle.plates.specs.Laws.{PlaneBit, PlaneTally, CellsBack, PlanesBack, UnpackedTally, PackThenUnpack, UnpackThenPack, SizesAgree, PackNine, UnpackNine}
-use Rattle.plates.proofs.PlaneLaws as PlaneLaws
-use Rattle.plates.proofs.NineLaws as NineLaws
+use Rattle.plates.specs.Laws.{PackThenUnpack, UnpackThenPack, SizesAgree}
 use Rattle.plates.proofs.Refusals.{size-kept, size-right, pack-kept, pack-0, unpack-kept, unpack-0}
-
-pub plane-bit : PlaneBit
-plane-bit = PlaneLaws.plane-bit
-
-pub plane-tally : PlaneTally
-plane-tally = PlaneLaws.plane-tally
-
-pub cells-back : CellsBack
-cells-back = PlaneLaws.cells-back
-
-pub planes-back : PlanesBack
-planes-back = PlaneLaws.planes-back
-
-pub unpacked-tally : UnpackedTally
-unpacked-tally = PlaneLaws.unpacked-tally
-
-pub pack-nine : PackNine
-pack-nine = NineLaws.pack-nine
-
-pub unpack-nine : UnpackNine
-unpack-nine = NineLaws.unpack-nine
+pub use Rattle.plates.proofs.PlaneLaws.{plane-bit, plane-tally, cells-back, planes-back, unpacked-tally}
+pub use Rattle.plates.proofs.NineLaws.{pack-nine, unpack-nine}
 
 pub sizes-agree : SizesAgree
 sizes-agree columns rows cells planes = (
@@ -53,7 +32,7 @@ pack-then-unpack columns rows cells planes memory e long =
     let kept = pack-kept columns rows cells (length planes) e in
     let sizes = size-kept _ _ _ _ _ _ (kept .0) in
     let made = pack-0 columns rows cells planes (kept .0) (kept .1) .1 in
-    let back = PlaneLaws.cells-back columns rows cells (sizes .1) (kept .1) in
+    let back = cells-back columns rows cells (sizes .1) (kept .1) in
     let size = size-right _ _ _ _ _ _ (sizes .0) (planes-length columns rows cells) (long ∙ sizes .1) in
     let done = unpack-0 columns rows (planesOf columns rows cells) memory size (back .0) (back .1) in
     rw (← made) (sym (done .0), sym (done .1) ∙ back .2)
@@ -63,7 +42,7 @@ unpack-then-pack columns rows planes cells memory bytes e long =
     let kept = unpack-kept columns rows planes (length cells) e in
     let sizes = size-kept _ _ _ _ _ _ (kept .0) in
     let made = unpack-0 columns rows planes cells (kept .0) (kept .1) (kept .2) .1 in
-    let back = PlaneLaws.planes-back columns rows planes (record { bytes = bytes; size = sizes .1; once = kept .1; clear = kept .2 }) in
+    let back = planes-back columns rows planes (record { bytes = bytes; size = sizes .1; once = kept .1; clear = kept .2 }) in
     let size = size-right _ _ _ _ _ _ (sizes .0) (cells-length columns rows planes) (long ∙ sizes .1) in
     let done = pack-0 columns rows (cellsOf columns rows planes) memory size (back .0) in
     rw (← made) (sym (done .0), sym (done .1) ∙ back .1)

@@ -1,21 +1,18 @@
 -- Refusals from the tests that a call makes, one law a number; and what a call leaves in lent memory, refused or not.
 -- Assumes nothing.
-use Prim.Native.Nat.{ℕ, _≤_}
+use Prim.Native.Nat.{ℕ}
 use mathlib.Core.Path.{_≡_, refl, sym, _∙_}
 use mathlib.Core.Bool.{Bool, true, false, _&&_}
 use mathlib.Core.List.{List}
 use lib.ListN.{length}
-use borrow.Author.Tests.{leb-true, eqb-true, eq-eqb, ne-eqb}
+use borrow.Author.Tests.{eqb-true, eq-eqb, ne-eqb}
+use Rattle.arith.specs.Sheet.{onSheet}
 use Rattle.arith.proofs.RefusalLaws.{both-pass, unless-none, or-none, content-refused, content-passed, size-refused}
 use Rattle.arith.proofs.RunLaws.{upto-length}
 use Rattle.plates.specs.Planes.{planesLength, cellsLength, planesOf, cellsOf, colorantsOnly, pixelsOnce, paddingClear}
-use Rattle.plates.specs.Refusals.{onSheet, lengthsRefusal, sizeRefusal, packSize, unpackSize, packRefusal, unpackRefusal, packed, unpacked}
+use Rattle.plates.specs.Refusals.{lengthsRefusal, sizeRefusal, packSize, unpackSize, packRefusal, unpackRefusal, packed, unpacked}
 
 -- ---- 5 to 7: the sizes
-
-pub sheet-kept : (columns rows : ℕ) → onSheet columns rows ≡ true → (columns ≤ 65536) × (rows ≤ 65536)
-unfolding onSheet
-sheet-kept columns rows e = let parts = both-pass _ _ e in (leb-true _ _ (parts .0), leb-true _ _ (parts .1))
 
 module _ (input stated output due : ℕ) where
   pub length-6 : (input ≡ stated → ⊥) → 6 ≡ lengthsRefusal input stated output due
@@ -32,26 +29,26 @@ module _ (input stated output due : ℕ) where
     length-0 e = rw (eq-eqb _ _ fits, eq-eqb _ _ e)
 
 module _ (columns rows input stated output due : ℕ) where
-  pub size-5 : onSheet columns rows ≡ false → 5 ≡ sizeRefusal columns rows input stated output due
+  pub size-5 : onSheet 0 0 columns rows ≡ false → 5 ≡ sizeRefusal columns rows input stated output due
   unfolding sizeRefusal
   size-5 e = rw e
 
-  pub size-lengths : onSheet columns rows ≡ true → lengthsRefusal input stated output due ≡ sizeRefusal columns rows input stated output due
+  pub size-lengths : onSheet 0 0 columns rows ≡ true → lengthsRefusal input stated output due ≡ sizeRefusal columns rows input stated output due
   unfolding sizeRefusal
   size-lengths e = rw e
 
   -- the sizes are right where the sheet's test has passed and that of the lengths has answered 0
-  pub size-passed : {r : ℕ} → onSheet columns rows ≡ true → r ≡ lengthsRefusal input stated output due → r ≡ 0 → sizeRefusal columns rows input stated output due ≡ 0
+  pub size-passed : {r : ℕ} → onSheet 0 0 columns rows ≡ true → r ≡ lengthsRefusal input stated output due → r ≡ 0 → sizeRefusal columns rows input stated output due ≡ 0
   size-passed sheet e z = sym (size-lengths sheet) ∙ sym e ∙ z
 
-  pub size-right : onSheet columns rows ≡ true → input ≡ stated → output ≡ due → sizeRefusal columns rows input stated output due ≡ 0
+  pub size-right : onSheet 0 0 columns rows ≡ true → input ≡ stated → output ≡ due → sizeRefusal columns rows input stated output due ≡ 0
   size-right sheet fits e = size-passed sheet (length-0 input stated output due fits e) refl
 
   -- what a call of the right sizes keeps
-  pub size-kept : sizeRefusal columns rows input stated output due ≡ 0 → (onSheet columns rows ≡ true) × (input ≡ stated) × (output ≡ due)
+  pub size-kept : sizeRefusal columns rows input stated output due ≡ 0 → (onSheet 0 0 columns rows ≡ true) × (input ≡ stated) × (output ≡ due)
   unfolding sizeRefusal lengthsRefusal
   size-kept e =
-      let five = unless-none (onSheet columns rows) 4 _ e in
+      let five = unless-none (onSheet 0 0 columns rows) 4 _ e in
       let six = unless-none _ 5 _ (five .1) in
       let seven = unless-none _ 6 _ (six .1) in
       (five .0, eqb-true _ _ (six .0), eqb-true _ _ (seven .0))

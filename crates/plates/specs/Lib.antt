@@ -2,3 +2,4 @@ pub mod Masks
 pub mod Planes
 pub mod Refusals
 pub mod Laws
+pub mod Marks

@@ -1,24 +1,22 @@
 -- Document 01, 'When a call is refused', for plates: refusals 5, 6, 7 and 9, and what the two calls leave in lent memory.
 -- Assumes nothing: these are definitions.
 use Prim.Native.Nat.{ℕ}
-use mathlib.Core.Bool.{Bool, _&&_}
+use mathlib.Core.Bool.{_&&_}
 use mathlib.Core.List.{List}
 use lib.ListN.{length}
-use lib.Dec.{leb, eqb}
+use lib.Dec.{eqb}
 use Rattle.arith.specs.Refusal.{unless, orElse, written}
+use Rattle.arith.specs.Sheet.{onSheet}
 use Rattle.plates.specs.Planes.{planesLength, cellsLength, planesOf, cellsOf, colorantsOnly, pixelsOnce, paddingClear}
-
--- 5: "X + W or Y + R above 65,536 (plates: X = Y = 0 ..)"
-unfoldable pub onSheet : ℕ → ℕ → Bool
-onSheet columns rows = leb columns 65536 && leb rows 65536
 
 -- 6, "input length not the stated one", then 7, "output length not the stated one"
 unfoldable pub lengthsRefusal : ℕ → ℕ → ℕ → ℕ → ℕ
 lengthsRefusal input inputStated output outputStated = unless (eqb input inputStated) 6 (unless (eqb output outputStated) 7 0)
 
+-- and before them 5, "X + W or Y + R above 65,536 (plates: X = Y = 0 ..)"
 unfoldable pub sizeRefusal : ℕ → ℕ → ℕ → ℕ → ℕ → ℕ → ℕ
 sizeRefusal columns rows input inputStated output outputStated =
-    unless (onSheet columns rows) 5 (lengthsRefusal input inputStated output outputStated)
+    unless (onSheet 0 0 columns rows) 5 (lengthsRefusal input inputStated output outputStated)
 
 -- 5 to 7 of the two calls: each takes what the other writes
 abbrev pub packSize : ℕ → ℕ → ℕ → ℕ → ℕ

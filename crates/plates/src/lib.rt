@@ -9,7 +9,8 @@ ghost use mathlib.Core.Path.{_≡_};
 ghost use Prim.Native.Nat.{_≤_};
 ghost use Rattle.plates.specs.Masks.{mask};
 ghost use Rattle.plates.specs.Planes.{rowBytes};
-ghost use Rattle.plates.specs.Refusals.{onSheet, lengthsRefusal};
+ghost use Rattle.arith.specs.Sheet.{onSheet};
+ghost use Rattle.plates.specs.Refusals.{lengthsRefusal};
 
 const MASKS: [u8; 8] = [128, 64, 32, 16, 8, 4, 2, 1];
 
@@ -22,7 +23,7 @@ fn mask_of(x: usize) -> u8
 
 // Whether a window at the sheet's corner lies on the sheet.
 fn on_sheet(columns: u32, rows: u32) -> bool
-    ensures { λ r. ⌜ r ≡ onSheet columns rows ⌝ }
+    ensures { λ r. ⌜ r ≡ onSheet 0 0 columns rows ⌝ }
 {
     columns <= 65536 && rows <= 65536
 }

@@ -3,7 +3,7 @@
 -- `add-num`, `mul-num`, `mul-cold`, `div-num`: the sum, the product, the product with a count of 0, and the quotient.
 -- Assumes nothing.
 use Prim.Native.Nat.{ℕ, _+_, _-_, _*_, _^_, _≤_, _<_}
-use native.Mathlib.Nat.{zero-lt-suc, lt-irrefl, mul-one, zero-mul, add-mul, mul-comm, mul-assoc, mul-left-comm, mul-mul-mul-comm, mul-pos}
+use native.Mathlib.Nat.{zero-lt-suc, lt-irrefl, mul-one, zero-mul, mul-comm, mul-mul-mul-comm, mul-pos}
 use native.Mathlib.Omega.{arith}
 use mathlib.Core.Path.{_≡_, refl, sym, ap, _∙_, subst}
 use mathlib.Core.Bool.{Bool, true, false, cond, true≢false}
@@ -22,7 +22,7 @@ Num nan a = ⊥
 Num (inf s) a = ⊥
 Num (fin s m e) a = (m * up e * 1 ≡ a * down e) × (T s → a ≡ 0)
 
-pub val→num : (x : Float) (s : Bool) (a : ℕ) → (T s → a ≡ 0) → HasValue x s a 1 → Num x a
+val→num : (x : Float) (s : Bool) (a : ℕ) → (T s → a ≡ 0) → HasValue x s a 1 → Num x a
 val→num nan s a h v = v
 val→num (inf t) s a h v = v
 val→num (fin t m e) s a h v = (v .1, λ (u : T t). h (subst T (v .0) u))
@@ -71,21 +71,14 @@ mul-cold (fin false m e) (fin true n d) p q =
 -- ---- the sum
 joined : (x y c d a b : ℕ) → x * 1 ≡ a * c → y * 1 ≡ b * d → (x * d + y * c) * 1 ≡ (a + b) * (c * d)
 joined x y c d a b p q =
-    mul-one (x * d + y * c)
-    ∙ ap (λ (z : ℕ). z * d + y * c) (sym (mul-one x) ∙ p)
-    ∙ ap (λ (z : ℕ). a * c * d + z * c) (sym (mul-one y) ∙ q)
-    ∙ ap (λ (z : ℕ). z + b * d * c) (mul-assoc a c d)
-    ∙ ap (λ (z : ℕ). a * (c * d) + z) (mul-assoc b d c ∙ ap (λ (z : ℕ). b * z) (mul-comm d c))
-    ∙ sym (add-mul a b (c * d))
-
-less-none : (A B : ℕ) → B ≡ 0 → A - B ≡ A + B
-less-none A B h = omega arith
-
-not-below : (A B : ℕ) → B ≡ 0 → B ≤ A
-not-below A B h = omega arith
+    let left : x ≡ a * c = omega arith in
+    let right : y ≡ b * d = omega arith in
+    rw (left, right) (omega arith)
 
 minus-zero : (A B C : ℕ) → B ≡ 0 → cond (ltb A B) (round binary64 true (B - A) C) (round binary64 false (A - B) C) ≡ round binary64 false (A + B) C
-minus-zero A B C h = rw (le-ltb A B (not-below A B h), less-none A B h)
+minus-zero A B C h =
+    let same : A - B ≡ A + B = omega arith in
+    rw (le-ltb A B (omega arith), same)
 
 pub add-num : (x y : Float) (a b : ℕ) → HasValue x false a 1 → Num y b → add binary64 x y ≡ ofInt binary64 (pos (a + b))
 unfolding add ofInt
@@ -106,11 +99,9 @@ add-num (fin false m e) (fin true n d) a b p q =
 -- ---- the quotient
 shared : (x y c d n v : ℕ) → x * 1 ≡ n * v * c → y * 1 ≡ n * d → x * d * 1 ≡ v * (y * c)
 shared x y c d n v p q =
-    let ac : n * v * c * d ≡ v * (n * d * c) = simp (mul-assoc, mul-comm, mul-left-comm) in
-    mul-one (x * d)
-    ∙ ap (λ (z : ℕ). z * d) (sym (mul-one x) ∙ p)
-    ∙ ac
-    ∙ ap (λ (z : ℕ). v * (z * c)) (sym q ∙ mul-one y)
+    let above : x ≡ n * v * c = omega arith in
+    let below : y ≡ n * d = omega arith in
+    rw (above, below) (omega arith)
 
 pub div-num : (x y : Float) (n v : ℕ) → 0 < n → HasValue x false (n * v) 1 → HasValue y false n 1 → div binary64 x y ≡ ofInt binary64 (pos v)
 unfolding div ofInt

@@ -1,5 +1,5 @@
 pub mod Published
-pub mod Worked
+pub mod AllMarks
 mod Steps
 mod Exact
 mod WholeLaws

@@ -1,15 +1,20 @@
--- Values beside the limits, and small predictions: proofs/Worked.antt shows them by computing the definitions.
--- Assumes nothing.
+-- Values beside the limits, and small predictions. proofs/AllMarks.antt shows them by computing the definitions.
+-- Assumes nothing: these are statements.
 use mathlib.Core.Path.{_≡_}
 use mathlib.Core.Bool.{true, false}
 use mathlib.Core.List.{List, [], _∷_}
+use lib.ListN.{getD}
 use lib.Ieee.{Float, nan, inf, binary64, ofBits}
-use Rattle.screen.specs.declared.Screen.{Screen}
+use Rattle.screen.specs.Marks.{listed, sloped}
 use Rattle.separation.specs.declared.Separation.the-variants.{Demichel, Kueppers}
+use Rattle.separation.specs.declared.Inks.{Inks}
+use Rattle.separation.specs.Weights.{inksOf}
+use Rattle.separation.specs.Marks.{half}
 use Rattle.predict.specs.declared.Xyz.{Xyz}
 use Rattle.predict.specs.declared.Prediction.the-variants.{Colour, BadPrimary, BadScreen}
-use Rattle.predict.specs.Predicted.{plusZero, limit, within, predicted}
-use Rattle.predict.specs.Laws.{minusZero}
+use Rattle.predict.specs.Predicted.{plusZero, limit, primary, within, total, channel, predicted}
+use Rattle.predict.specs.Paper.{paperOf, ruled}
+use Rattle.predict.specs.Laws.{AllAdmitted, FullTone, minusZero}
 
 -- 0.1, and a primary of it, -0 and 200
 abbrev pub tenth : Float
@@ -31,12 +36,14 @@ primaries = ink ∷ ink ∷ ink ∷ ink ∷ ink ∷ ink ∷ ink ∷ white ∷ []
 abbrev pub magentaUnset : List Xyz
 magentaUnset = ink ∷ unset ∷ ink ∷ ink ∷ ink ∷ ink ∷ ink ∷ unset ∷ []
 
--- the screen 4/7 of 105 cells, and one whose slope is not in lowest terms
-abbrev pub listed : Screen
-listed = record { a = 4; b = 7; n = 105; k = 2; g = 0 }
+-- every primary 200, -0 and +0
+abbrev pub whole : List Xyz
+whole =
+    let p : Xyz = record { x = limit; y = minusZero; z = plusZero } in
+    p ∷ p ∷ p ∷ p ∷ p ∷ p ∷ p ∷ p ∷ []
 
-abbrev pub sloped : Screen
-sloped = record { a = 4; b = 8; n = 105; k = 2; g = 0 }
+abbrev pub cyan : Inks
+cyan = inksOf 255 0 0
 
 pub record Marks : Type 0 where
   pub nan-bad : within nan ≡ false
@@ -48,8 +55,17 @@ pub record Marks : Type 0 where
   pub minus-zero-good : within minusZero ≡ true
   pub zero-good : within plusZero ≡ true
   pub limit-good : within limit ≡ true
+  -- a sum begun at -0 would stay there
+  pub begun : total 1 (λ j. 26) (λ j. minusZero) ≡ plusZero
   -- counts 26, 26, 0, 27, 0, 0, 0, 26: from the last colorant on it would end in 39, divided before the sum in 3a
-  pub uneven : predicted listed Demichel (record { c = 128; m = 128; y = 0 }) primaries ≡ Colour (ofBits binary64 0x3fbff0656cbd323b) plusZero limit
-  pub full-tone : predicted listed Kueppers (record { c = 255; m = 0; y = 0 }) primaries ≡ Colour tenth plusZero limit
-  pub bad-primary : predicted listed Kueppers (record { c = 255; m = 0; y = 0 }) magentaUnset ≡ BadPrimary 1
-  pub bad-screen : predicted sloped Kueppers (record { c = 255; m = 0; y = 0 }) magentaUnset ≡ BadScreen 1
+  pub uneven-x : channel (λ j. getD (26 ∷ 26 ∷ 0 ∷ 27 ∷ 0 ∷ 0 ∷ 0 ∷ 26 ∷ []) j 0) 105 (λ j. primary primaries j .x) ≡ ofBits binary64 0x3fbff0656cbd323b
+  pub uneven : predicted listed Demichel half primaries ≡ Colour (ofBits binary64 0x3fbff0656cbd323b) plusZero limit
+  pub full-tone : predicted listed Kueppers cyan primaries ≡ Colour tenth plusZero limit
+  pub bad-primary : predicted listed Kueppers cyan magentaUnset ≡ BadPrimary 1
+  pub bad-screen : predicted sloped Kueppers cyan magentaUnset ≡ BadScreen 1
+  -- the same two in the paper's numbers
+  pub paper-primary : ruled listed Kueppers cyan magentaUnset ≡ paperOf (BadPrimary 1)
+  pub paper-screen : ruled sloped Kueppers cyan magentaUnset ≡ paperOf (BadScreen 1)
+  -- what the law of full tones says of -0, and that a NaN is not within its limits
+  pub minus-zero-law : FullTone → AllAdmitted whole → predicted listed Kueppers cyan whole ≡ Colour limit plusZero plusZero
+  pub nan-law : AllAdmitted magentaUnset → false ≡ true

@@ -2,7 +2,7 @@
 -- `add`, `mul`, `div` and `ofInt` round once, to nearest, ties to even.
 -- Assumes nothing: these are definitions.
 use Prim.Native.Nat.{ℕ, zero, suc}
-use mathlib.Core.Bool.{Bool, true, false, not, _&&_}
+use mathlib.Core.Bool.{Bool, false, cond, not, _&&_}
 use mathlib.Core.List.{List}
 use lib.Dec.{eqb, ltb}
 use lib.IntN.{pos}
@@ -60,15 +60,10 @@ totals k c ps = record { x = total k c (λ j. primary ps j .x); y = total k c (�
 abbrev pub meanOf : (ℕ → ℕ) → ℕ → List Xyz → Prediction
 meanOf c n ps = Colour (channel c n (λ j. primary ps j .x)) (channel c n (λ j. primary ps j .y)) (channel c n (λ j. primary ps j .z))
 
--- one answer or another
-abbrev pub pick : Bool → Prediction → Prediction → Prediction
-pick true a b = a
-pick false a b = b
-
 -- What `predict` answers: "either the triple or the number of the first colorant with a bad value; a bad screen is refused before
 -- that, by 1 to 4".
 unfoldable pub predicted : Screen → Separation → Inks → List Xyz → Prediction
 predicted s sep inks ps =
-    pick (eqb (refusalOf s) 0)
-    (pick (ltb (firstBad ps) 8) (BadPrimary (firstBad ps)) (meanOf (count s sep inks) (s .n) ps))
+    cond (eqb (refusalOf s) 0)
+    (cond (ltb (firstBad ps) 8) (BadPrimary (firstBad ps)) (meanOf (count s sep inks) (s .n) ps))
     (BadScreen (refusalOf s))

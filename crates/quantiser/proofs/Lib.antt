@@ -1,8 +1,7 @@
 pub mod Published
-pub mod Worked
+pub mod AllMarks
 mod RunningLaws
 mod SubscreenLaws
-mod PhaseSearch
 mod ThresholdLaws
 mod ThresholdLoop
 mod LevelLaws

@@ -1,13 +1,12 @@
 -- The laws of specs/Laws.antt, proved.
 -- Assumes nothing.
-use mathlib.Core.Path.{sym}
-use Rattle.separation.proofs.Published.{weights-add-up}
-use Rattle.quantiser.specs.Laws.{RunningRises, RunningEnds, CountsAddUp, CountShare, CountsAnswered, ScaleLimit, SubscreensAddUp, SubscreenPlaces, PhasePlace, ColorantBelow, PhasesInSubscreen, SubscreenShare, PhasesInAll, ThresholdLaw, ThresholdWithin, ThresholdOnce, ThresholdAnswered, ThresholdListed, RankBelow, ColorantRank}
+use native.Mathlib.Omega.{arith}
+use Rattle.separation.proofs.Published.{weights-add-up, scale-odd}
+use Rattle.quantiser.specs.Laws.{RunningRises, RunningEnds, CountsAddUp, CountShare, HalvesNever, CountsAnswered, ScaleLimit, SubscreensAddUp, SubscreenPlaces, PhasePlace, ColorantBelow, PhasesInSubscreen, SubscreenShare, PhasesInAll, ThresholdLaw, ThresholdWithin, ThresholdOnce, ThresholdListed, RankBelow, RankNone, ColorantRank}
 use Rattle.quantiser.proofs.LevelLaws as LevelLaws
 use Rattle.quantiser.proofs.RunningLaws as RunningLaws
 use Rattle.quantiser.proofs.SubscreenLaws as SubscreenLaws
 use Rattle.quantiser.proofs.ThresholdLaws as ThresholdLaws
-use Rattle.quantiser.proofs.PhaseSearch as PhaseSearch
 
 -- ---- running sums and counts
 
@@ -22,6 +21,9 @@ counts-add-up s ok sep inks v = RunningLaws.counts-add-up s sep inks (weights-ad
 
 pub count-share : CountShare
 count-share s ok sep inks v j = (RunningLaws.count-low s sep inks j, RunningLaws.count-high s sep inks j)
+
+pub halves-never : HalvesNever
+halves-never s sep inks j m e = omega (arith, scale-odd sep .1)
 
 pub counts-answered : CountsAnswered
 counts-answered = RunningLaws.counts-answered
@@ -67,14 +69,14 @@ threshold-within = ThresholdLaws.threshold-within
 pub threshold-once : ThresholdOnce
 threshold-once = ThresholdLaws.threshold-once
 
-pub threshold-answered : ThresholdAnswered
-threshold-answered s ok p l = sym (PhaseSearch.threshold-whole s p ok l)
-
 pub threshold-listed : ThresholdListed
 threshold-listed = LevelLaws.thresholds-listed
 
 pub rank-below : RankBelow
 rank-below = ThresholdLaws.rank-below
+
+pub rank-none : RankNone
+rank-none = ThresholdLaws.rank-none
 
 pub colorant-rank : ColorantRank
 colorant-rank s ok sep inks v = ThresholdLaws.colorant-rank s sep inks ok (running-ends s ok sep inks v)

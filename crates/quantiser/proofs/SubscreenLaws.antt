@@ -5,7 +5,7 @@ use Prim.Native.Nat.{ℕ, zero, suc, pred, _+_, _-_, _/_, _≤_, _<_}
 use mathlib.Core.Path.{_≡_, refl, sym, ap, ap₂, _∙_}
 use mathlib.Core.Bool.{_&&_}
 use mathlib.Core.Logic.{_≢_}
-use native.Mathlib.Nat.{le-refl, le-div-iff-mul-le, suc-pred-eq-of-pos, zero-add, div-eq-of-lt}
+use native.Mathlib.Nat.{le-refl, suc-pred-eq-of-pos, zero-add, div-eq-of-lt}
 use native.Mathlib.Omega.{arith}
 use lib.Dec.{eqb}
 use borrow.Author.Tests.{lt-ltb, le-ltb, ltb-true, ltb-false, eq-eqb, ne-eqb}
@@ -34,17 +34,12 @@ module _ (s : Screen) (ok : Admitted s) where
   unfolding subscreenStart sumBelow
   start-step k = refl
 
-  start-rises : (k : ℕ) → subscreenStart s k ≤ subscreenStart s (suc k)
+  pub start-rises : (k : ℕ) → subscreenStart s k ≤ subscreenStart s (suc k)
   start-rises k = omega (arith, start-step k)
 
   pub sizes-add-up : subscreenStart s (s .k) ≡ s .n
   unfolding subscreenStart subscreenSize
   sizes-add-up = floors-add-up (s .n) (s .k) (limits .subscreens-above)
-
-  -- no subscreen is empty
-  pub size-pos : (k : ℕ) → 0 < subscreenSize s k
-  unfolding subscreenSize
-  size-pos k = le-div-iff-mul-le (limits .subscreens-above) .1 (omega (arith, limits .subscreens-cells))
 
   -- the subscreen in which p lies
   pub subscreen-is : (k p : ℕ) → k < s .k → subscreenStart s k ≤ p → p < subscreenStart s (suc k) → subscreenOf s p ≡ k

@@ -17,7 +17,7 @@ use Rattle.arith.specs.First.{firstBelow}
 use Rattle.arith.specs.Run.{upto}
 use Rattle.arith.proofs.FirstLaws.{first-same, first-counts}
 use Rattle.arith.proofs.RunLaws.{upto-at}
-use Rattle.arith.proofs.SumLaws.{sum-same, sum-bounded, each-once}
+use Rattle.arith.proofs.SumLaws.{sum-same, sum-bounded, sum-constant, each-once}
 use Rattle.arith.proofs.TallyLaws.{indicator-le}
 use Rattle.screen.specs.declared.Screen.{Screen}
 use Rattle.screen.specs.Screens.{Admitted}
@@ -71,6 +71,11 @@ same-place K k q k′ q′ l l′ e =
 pub rank-below : (levels : List ℕ) (bar : ℕ) → rank levels bar < 8
 unfolding rank
 rank-below levels bar = omega (arith, sum-bounded 7 (λ j. indicator (ltb (getD levels j 0) bar)) (λ j l. indicator-le (ltb (getD levels j 0) bar)))
+
+-- no level is below 0
+pub rank-none : (levels : List ℕ) → rank levels 0 ≡ 0
+unfolding rank
+rank-none levels = sum-constant 7 0 (λ j. indicator (ltb (getD levels j 0) 0)) (λ j l. rw (le-ltb (getD levels j 0) 0 (omega arith))) ∙ omega arith
 
 -- ---- of a screen
 

@@ -1,104 +1,70 @@
--- The loop of `rank_phases`, over plain numbers and lists: the first places are written, and the subscreen k and the threshold of
--- the next phase are known.
+-- The loop of `rank_phases`, over plain numbers and lists: the thresholds of the first k subscreens are written.
 -- Assumes nothing.
-use Prim.Native.Nat.{ℕ, suc, _+_, _-_, _/_, _≤_, _<_}
-use mathlib.Core.Path.{_≡_, sym, ap, _∙_}
+use Prim.Native.Nat.{ℕ, _+_, _-_, _*_, _/_, _≤_, _<_}
+use mathlib.Core.Path.{_≡_, refl, sym, ap, ap₂, _∙_}
 use mathlib.Core.List.{List, _++_}
-use mathlib.Core.Logic.{_⊎_, inl, inr}
-use native.Mathlib.Nat.{eq-or-lt-of-le, le-div-iff-mul-le, div-lt-iff-lt-mul}
+use native.Mathlib.Nat.{div-mul-le-self}
 use native.Mathlib.Numerals.{add-one}
 use native.Mathlib.Omega.{arith}
-use lib.ListN.{length, set, drop}
+use lib.ListN.{length, take, drop}
+use borrow.Rule.Slice.PartMut.{putMid}
 use Rattle.arith.specs.Run.{upto}
 use Rattle.arith.specs.Sum.{sumBelow}
-use Rattle.arith.proofs.RunLaws.{Filling, filling-start, filling-length, filling-store}
+use Rattle.arith.proofs.RunLaws.{upto-same, part-length, Filling, filling-start, filling-length, filling-part}
+use Rattle.arith.proofs.StepLaws.{rises-to}
 use Rattle.screen.specs.declared.Screen.{Screen}
 use Rattle.screen.specs.Screens.{Admitted}
-use Rattle.screen.proofs.Published.{admitted-words}
-use Rattle.quantiser.specs.Subscreens.{subscreenSize, subscreenStart, subscreenOf, distanceOf}
+use Rattle.quantiser.specs.Subscreens.{subscreenSize, subscreenStart}
 use Rattle.quantiser.specs.Leaves.{thresholdAt, thresholdOf}
-use Rattle.quantiser.proofs.SubscreenLaws.{start-step, sizes-add-up, size-pos, subscreen-is}
+use Rattle.quantiser.proofs.SubscreenLaws.{start-step, start-rises, sizes-add-up, place-of}
 
-pub record RankAt (s : Screen) (table₀ table : List ℕ) (k threshold phase : ℕ) : Type 0 where
-  pub within : phase ≤ s .n
-  pub cells : Filling (thresholdOf s) table₀ table phase
+pub record RankAt (s : Screen) (table₀ table : List ℕ) (k start : ℕ) : Type 0 where
   pub most : k ≤ s .k
-  pub low : subscreenStart s k ≤ phase
-  pub high : k < s .k → phase < subscreenStart s (suc k)
-  pub bounded : threshold ≤ s .n
-  pub ranked : threshold ≡ thresholdAt s k (phase - subscreenStart s k)
+  pub begins : start ≡ subscreenStart s k
+  pub cells : Filling (thresholdOf s) table₀ table start
 
-pub rank-start : (s : Screen) → Admitted s → (table : List ℕ) → RankAt s table table 0 (s .k) 0
-unfolding subscreenStart sumBelow thresholdAt
-rank-start s ok table =
-    record {
-      within = omega arith;
-      cells = filling-start _ _;
-      most = omega arith;
-      low = omega arith;
-      high = λ _. omega (arith, size-pos s ok 0);
-      bounded = admitted-words s .0 ok .subscreens-cells;
-      ranked = omega arith;
-    }
+pub rank-start : (s : Screen) (table : List ℕ) → RankAt s table table 0 0
+unfolding subscreenStart sumBelow
+rank-start s table = record { most = omega arith; begins = refl; cells = filling-start _ _ }
 
-module _ {s : Screen} {table₀ table : List ℕ} {k threshold phase : ℕ} (ok : Admitted s) (r : RankAt s table₀ table k threshold phase) where
-  -- a phase below N lies in a subscreen
-  pub rank-subscreen : phase < s .n → k < s .k
-  rank-subscreen l = go (eq-or-lt-of-le (r .most))
-    where
-      go : (k ≡ s .k) ⊎ (k < s .k) → k < s .k
-      go (inl e) = absurd (omega (arith, r .low, sizes-add-up s ok, ap (subscreenStart s) e))
-      go (inr h) = h
-
-  threshold-is : phase < s .n → threshold ≡ thresholdOf s phase
-  unfolding thresholdOf distanceOf
-  threshold-is l =
-      let here : subscreenOf s phase ≡ k = subscreen-is s ok k phase (rank-subscreen l) (r .low) (r .high (rank-subscreen l)) in
-      r .ranked ∙ sym (ap (λ (i : ℕ). thresholdAt s i (phase - subscreenStart s i)) here)
-
+module _ {s : Screen} {table₀ table : List ℕ} {k start : ℕ} (ok : Admitted s) (r : RankAt s table₀ table k start) where
   pub rank-length : length table ≡ length table₀
   rank-length = filling-length (r .cells)
 
-  stored : s .n ≤ length table₀ → phase < s .n → Filling (thresholdOf s) table₀ (set table phase threshold) (phase + 1)
-  stored room l = filling-store (r .cells) threshold (omega arith) (threshold-is l)
+  module _ (l : k < s .k) where
+    -- the next subscreen begins where this ends, within the N phases
+    next-begins : start + (s .n + k) / s .k ≡ subscreenStart s (k + 1)
+    unfolding subscreenSize
+    next-begins = rw (add-one, start-step s ok k) (ap (λ (z : ℕ). z + (s .n + k) / s .k) (r .begins))
 
-  -- within a subscreen
-  pub rank-next : s .n ≤ length table₀ → phase < s .n → threshold + s .k ≤ s .n → RankAt s table₀ (set table phase threshold) k (threshold + s .k) (phase + 1)
-  unfolding thresholdAt subscreenSize
-  rank-next room l h =
-      let q : ℕ = phase - subscreenStart s k in
-      let past : phase + 1 - subscreenStart s k ≡ q + 1 = omega (arith, r .low) in
-      let more : suc (q + 1) ≤ (s .n + k) / s .k = le-div-iff-mul-le {k = s .k} {x = suc (q + 1)} {y = s .n + k} (omega (arith, rank-subscreen l)) .1 (omega (arith, r .ranked)) in
-      record {
-        within = omega arith;
-        cells = stored room l;
-        most = r .most;
-        low = omega (arith, r .low);
-        high = λ _. omega (arith, start-step s ok k, more, r .low);
-        bounded = h;
-        ranked = rw past (omega (arith, r .ranked, rank-subscreen l));
-      }
+    pub next-fits : start + (s .n + k) / s .k ≤ s .n
+    next-fits = omega (arith, next-begins, rises-to (subscreenStart s) (start-rises s ok) (k + 1) (s .k) (omega arith), sizes-add-up s ok)
 
-  -- at the end of a subscreen
-  pub rank-turn : s .n ≤ length table₀ → phase < s .n → s .n < threshold + s .k → RankAt s table₀ (set table phase threshold) (k + 1) (s .k - (k + 1)) (phase + 1)
-  unfolding thresholdAt subscreenSize
-  rank-turn room l h =
-      let q : ℕ = phase - subscreenStart s k in
-      let less : (s .n + k) / s .k < suc (q + 1) = div-lt-iff-lt-mul {k = s .k} {x = s .n + k} {y = suc (q + 1)} (omega (arith, rank-subscreen l)) .1 (omega (arith, r .ranked)) in
-      let turned : phase + 1 ≡ subscreenStart s (suc k) = omega (arith, start-step s ok k, less, r .low, r .high (rank-subscreen l)) in
-      let at-end : phase + 1 ≡ subscreenStart s (k + 1) = turned ∙ ap (subscreenStart s) (sym (add-one k)) in
-      let from : phase + 1 - subscreenStart s (k + 1) ≡ 0 = omega arith in
-      record {
-        within = omega arith;
-        cells = stored room l;
-        most = omega (arith, rank-subscreen l);
-        low = omega arith;
-        high = λ _. omega (arith, start-step s ok (k + 1), size-pos s ok (k + 1));
-        bounded = omega (arith, admitted-words s .0 ok .subscreens-cells);
-        ranked = rw from (omega arith);
-      }
+    module _ (room : s .n ≤ length table₀) where
+      -- the part that is lent for it
+      pub part-size : length (take (start + (s .n + k) / s .k - start) (drop start table)) ≡ (s .n + k) / s .k
+      part-size = part-length start ((s .n + k) / s .k) table (omega (arith, rank-length, next-fits))
 
-  pub rank-end : s .n ≤ phase → table ≡ upto (thresholdOf s) (s .n) ++ drop (s .n) table₀
+      pub part-small : length (take (start + (s .n + k) / s .k - start) (drop start table)) * s .k ≤ s .n + k
+      part-small = rw part-size (div-mul-le-self (s .n + k) (s .k))
+
+      -- and what is written there
+      pub rank-next : (out : List ℕ) → out ≡ upto (λ q. (q + 1) * s .k - k) (length (take (start + (s .n + k) / s .k - start) (drop start table)))
+          → RankAt s table₀ (putMid start (start + (s .n + k) / s .k - start) table out) (k + 1) (start + (s .n + k) / s .k)
+      unfolding thresholdOf thresholdAt subscreenSize
+      rank-next out e =
+          record {
+            most = omega arith;
+            begins = next-begins;
+            cells = filling-part (r .cells) ((s .n + k) / s .k) out (omega (arith, next-fits)) (e ∙ ap (upto (λ q. (q + 1) * s .k - k)) part-size ∙ upto-same _ _ _ there);
+          }
+        where
+          there : (q : ℕ) → q < (s .n + k) / s .k → (q + 1) * s .k - k ≡ thresholdOf s (start + q)
+          there q h =
+              let place = place-of s ok k q l h in
+              rw (r .begins) (sym (ap₂ (λ (i d : ℕ). thresholdAt s i d) (place .0) (place .1)))
+
+  pub rank-end : s .k ≤ k → table ≡ upto (thresholdOf s) (s .n) ++ drop (s .n) table₀
   rank-end h =
-      let e : phase ≡ s .n = omega (arith, r .within) in
-      r .cells .cells ∙ ap (λ (i : ℕ). upto (thresholdOf s) i ++ drop i table₀) e
+      let last : k ≡ s .k = omega (arith, r .most) in
+      r .cells .cells ∙ ap (λ (i : ℕ). upto (thresholdOf s) i ++ drop i table₀) (r .begins ∙ ap (subscreenStart s) last ∙ sizes-add-up s ok)

@@ -1,13 +1,13 @@
 -- What `quantiser` promises of its definitions to the crates above. Each is a statement; proofs/Published.antt proves it.
 -- Assumes nothing.
-use Prim.Native.Nat.{ℕ, suc, _+_, _-_, _*_, _/_, _≤_, _<_}
+use Prim.Native.Nat.{ℕ, suc, _+_, _-_, _*_, _≤_, _<_}
 use mathlib.Core.Path.{_≡_}
 use mathlib.Core.List.{List}
 use lib.ListN.{length, getD}
 use lib.Dec.{eqb, leb}
 use Rattle.arith.specs.Sum.{sumBelow, indicator}
 use Rattle.arith.specs.First.{firstBelow}
-use Rattle.arith.specs.Rounding.{roundedUp, before}
+use Rattle.arith.specs.Rounding.{Rounded, before}
 use Rattle.arith.specs.Run.{upto}
 use Rattle.screen.specs.declared.Screen.{Screen}
 use Rattle.screen.specs.Screens.{refusalOf, Admitted}
@@ -15,9 +15,9 @@ use Rattle.separation.specs.declared.Separation.{Separation}
 use Rattle.separation.specs.declared.Inks.{Inks}
 use Rattle.separation.specs.Weights.{weight, scaleOf}
 use Rattle.separation.specs.Laws.{InkValues}
-use Rattle.quantiser.specs.Running.{running, count, countsOf}
+use Rattle.quantiser.specs.Running.{weightUpTo, running, count, countsOf}
 use Rattle.quantiser.specs.Subscreens.{subscreenSize, subscreenStart, subscreenOf, distanceOf, fillUpTo, colorantAt, colorantOf, phasesIn, phasesOf}
-use Rattle.quantiser.specs.Leaves.{thresholdAt, thresholdOf, thresholdFor, thresholdsIn, levelsOf, rank}
+use Rattle.quantiser.specs.Leaves.{thresholdAt, thresholdOf, thresholdsIn, levelsOf, rank}
 
 -- a statement of every admitted screen, separation and ink values
 abbrev pub Always : (Screen → Separation → Inks → Type 0) → Type 0
@@ -35,12 +35,16 @@ RunningEnds = Always (λ s sep inks. running s sep inks 7 ≡ s .n)
 abbrev pub CountsAddUp : Type 0
 CountsAddUp = Always (λ s sep inks. sumBelow 8 (count s sep inks) ≡ s .n)
 
--- "counts are shares rounded down or up", "a colorant's share is N × weight / D"
+-- "counts are shares rounded down or up", "a colorant's share is N × weight / D": of one colorant, and of all
+abbrev pub ShareRounded : Screen → Separation → Inks → ℕ → Type 0
+ShareRounded s sep inks j = Rounded (s .n * weight sep inks j) (scaleOf sep) (count s sep inks j)
+
 abbrev pub CountShare : Type 0
-CountShare =
-    Always
-    (λ s sep inks. (j : ℕ)
-    → (s .n * weight sep inks j / scaleOf sep ≤ count s sep inks j) × (count s sep inks j ≤ roundedUp (s .n * weight sep inks j) (scaleOf sep)))
+CountShare = Always (λ s sep inks. (j : ℕ) → ShareRounded s sep inks j)
+
+-- "Halves can't occur, D being odd.": N × A(j) is never an odd multiple of D / 2
+abbrev pub HalvesNever : Type 0
+HalvesNever = (s : Screen) (sep : Separation) (inks : Inks) (j m : ℕ) → 2 * (s .n * weightUpTo sep inks j) ≡ (2 * m + 1) * scaleOf sep → ⊥
 
 -- what `counts` answers: the screen's refusal, and for an admitted screen the counts
 abbrev pub CountsAnswered : Type 0
@@ -82,12 +86,13 @@ PhasesInSubscreen =
     (λ s sep inks. (k j : ℕ) → k < s .k → j < 8
     → phasesIn s sep inks k j ≡ fillUpTo s sep inks k j - before (fillUpTo s sep inks k) j)
 
--- "subscreens split them evenly": that is between count / K rounded down and rounded up
+-- "subscreens split them evenly": of a number of cells of colorant j, that it is the colorant's count / K rounded down or up; and that the
+-- number of its phases in each subscreen is such a one
+abbrev pub SplitEvenly : Screen → Separation → Inks → ℕ → ℕ → Type 0
+SplitEvenly s sep inks j cells = Rounded (count s sep inks j) (s .k) cells
+
 abbrev pub SubscreenShare : Type 0
-SubscreenShare =
-    Always
-    (λ s sep inks. (k j : ℕ) → k < s .k → j < 8
-    → (count s sep inks j / s .k ≤ phasesIn s sep inks k j) × (phasesIn s sep inks k j ≤ roundedUp (count s sep inks j) (s .k)))
+SubscreenShare = Always (λ s sep inks. (k j : ℕ) → k < s .k → j < 8 → SplitEvenly s sep inks j (phasesIn s sep inks k j))
 
 -- over all phases exactly the count have colorant j
 abbrev pub PhasesInAll : Type 0
@@ -111,10 +116,6 @@ ThresholdOnce =
     (s : Screen) → Admitted s → (t : ℕ) → 1 ≤ t → t ≤ s .n → sumBelow (s .n) (λ p. indicator (eqb (thresholdOf s p) t)) ≡ 1
 
 -- a table with the thresholds written to it is as long as before, and has each phase's at its number
--- what `threshold` answers for a phase of an admitted screen
-abbrev pub ThresholdAnswered : Type 0
-ThresholdAnswered = (s : Screen) → Admitted s → (p : ℕ) → p < s .n → thresholdFor s p ≡ thresholdOf s p
-
 abbrev pub ThresholdListed : Type 0
 ThresholdListed =
     (s : Screen) → Admitted s → (table : List ℕ) → s .n ≤ length table
@@ -123,6 +124,10 @@ ThresholdListed =
 -- a rank is a colorant's number
 abbrev pub RankBelow : Type 0
 RankBelow = (levels : List ℕ) (bar : ℕ) → rank levels bar < 8
+
+-- and that of 0, which is above no level, is 0
+abbrev pub RankNone : Type 0
+RankNone = (levels : List ℕ) → rank levels 0 ≡ 0
 
 -- a phase's colorant is the rank of its threshold, scaled by 2 × D, among the levels
 abbrev pub ColorantRank : Type 0

@@ -2,31 +2,26 @@
 -- colour. That the two give the colorant of a phase is `ColorantRank` (Laws.antt).
 -- Assumes nothing: these are definitions.
 use Prim.Native.Nat.{ℕ, _+_, _-_, _*_}
-use mathlib.Core.Bool.{cond}
 use mathlib.Core.List.{List}
 use lib.ListN.{length, getD}
 use lib.Dec.{ltb}
 use Rattle.arith.specs.Sum.{sumBelow, indicator}
 use Rattle.arith.specs.Run.{upto}
-use Rattle.arith.specs.Refusal.{answered, written}
+use Rattle.arith.specs.Refusal.{written}
 use Rattle.screen.specs.declared.Screen.{Screen}
-use Rattle.screen.specs.Screens.{refusalOf}
 use Rattle.screen.specs.Brick.{bufferRefusal}
 use Rattle.separation.specs.declared.Separation.{Separation}
 use Rattle.separation.specs.declared.Inks.{Inks}
 use Rattle.quantiser.specs.Running.{level}
 use Rattle.quantiser.specs.Subscreens.{subscreenOf, distanceOf}
 
--- The threshold of a cell in subscreen k at distance q: the least running sum that fills it.
+-- The threshold of a cell in subscreen k at distance q: the least running sum C that fills it. q is below (C + k) / K rounded
+-- down exactly where (q + 1) × K is at most C + k, so where C is at least (q + 1) × K − k (`ThresholdLaw`, Laws.antt).
 unfoldable pub thresholdAt : Screen → ℕ → ℕ → ℕ
 thresholdAt s k q = (q + 1) * s .k - k
 
 unfoldable pub thresholdOf : Screen → ℕ → ℕ
 thresholdOf s p = thresholdAt s (subscreenOf s p) (distanceOf s p)
-
--- what `threshold` answers: that of a phase below N, and 0 for any other or where the screen is refused
-unfoldable pub thresholdFor : Screen → ℕ → ℕ
-thresholdFor s p = answered (refusalOf s) (cond (ltb p (s .n)) (thresholdOf s p) 0)
 
 -- what `thresholds` leaves in a table: those of the phases 0 to N − 1 in the order of their numbers, and what stood after them
 unfoldable pub thresholdsIn : Screen → List ℕ → List ℕ

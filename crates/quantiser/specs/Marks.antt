@@ -1,28 +1,18 @@
--- The starred marks of document 01, collected. proofs/Worked.antt shows them from the definitions.
+-- The starred marks of document 01, collected, and two small cases of the laws. proofs/AllMarks.antt shows them by computing the
+-- definitions.
 -- Assumes nothing: these are statements.
-use Prim.Native.Nat.{ℕ}
 use mathlib.Core.Path.{_≡_}
 use mathlib.Core.List.{[], _∷_}
 use Rattle.arith.specs.Run.{upto}
-use Rattle.screen.specs.declared.Screen.{Screen}
+use Rattle.screen.specs.Screens.{screenOf}
 use Rattle.screen.specs.Marks as Screens
+use Rattle.screen.specs.Marks.{listed, tworowed}
 use Rattle.separation.specs.declared.Separation.the-variants.{Demichel, Kueppers}
-use Rattle.separation.specs.declared.Inks.{Inks}
+use Rattle.separation.specs.Weights.{inksOf}
+use Rattle.separation.specs.Marks.{half, rising}
 use Rattle.quantiser.specs.Running.{count}
 use Rattle.quantiser.specs.Subscreens.{subscreenSize, colorantOf, phasesIn}
-
-abbrev pub screenOf : ℕ → ℕ → ℕ → ℕ → ℕ → Screen
-screenOf a b n k g = record { a = a; b = b; n = n; k = k; g = g }
-
-abbrev pub inksOf : ℕ → ℕ → ℕ → Inks
-inksOf c m y = record { c = c; m = m; y = y }
-
--- line 1 of the worked input, and the ink values of its first P
-abbrev pub listed : Screen
-listed = screenOf 4 7 105 2 0
-
-abbrev pub half : Inks
-half = inksOf 128 128 0
+use Rattle.quantiser.specs.Laws.{ShareRounded, SplitEvenly}
 
 pub record Marks : Type 0 where
   -- the bricks of three screens and the phases 98 and 103
@@ -30,15 +20,18 @@ pub record Marks : Type 0 where
   -- the counts of the first P: 26, 26, 0, 27, 0, 0, 0, 26
   pub first-p : upto (count listed Demichel half) 8 ≡ 26 ∷ 26 ∷ 0 ∷ 27 ∷ 0 ∷ 0 ∷ 0 ∷ 26 ∷ []
   -- "The first P above, K = 2: subscreens of 52 and 53 cells"
-  pub sizes : upto (subscreenSize listed) 2 ≡ 52 ∷ 53 ∷ []
+  pub sizes : (subscreenSize listed 0 ≡ 52) × (subscreenSize listed 1 ≡ 53)
   -- "counts 13, 13, 0, 13, 0, 0, 0, 13 and 13, 13, 0, 14, 0, 0, 0, 13"
   pub in-subscreen-0 : upto (phasesIn listed Demichel half 0) 8 ≡ 13 ∷ 13 ∷ 0 ∷ 13 ∷ 0 ∷ 0 ∷ 0 ∷ 13 ∷ []
   pub in-subscreen-1 : upto (phasesIn listed Demichel half 1) 8 ≡ 13 ∷ 13 ∷ 0 ∷ 14 ∷ 0 ∷ 0 ∷ 0 ∷ 13 ∷ []
+  -- blue's 27 are its share of 26.46 rounded up, and 14 of them in a subscreen are half of 27 rounded up
+  pub share-blue : ShareRounded listed Demichel half 3
+  pub split-blue : SplitEvenly listed Demichel half 3 14
   -- "Phase 39 is white, phase 91 blue."
   pub phase-39 : colorantOf listed Demichel half 39 ≡ 7
   pub phase-91 : colorantOf listed Demichel half 91 ≡ 3
   -- "Kueppers 51, 102, 204, N = 70: 0, 0, 28, 0, 0, 14, 14, 14."
-  pub kueppers-70 : upto (count (screenOf 4 7 70 2 0) Kueppers (inksOf 51 102 204)) 8 ≡ 0 ∷ 0 ∷ 28 ∷ 0 ∷ 0 ∷ 14 ∷ 14 ∷ 14 ∷ []
+  pub kueppers-70 : upto (count tworowed Kueppers rising) 8 ≡ 0 ∷ 0 ∷ 28 ∷ 0 ∷ 0 ∷ 14 ∷ 14 ∷ 14 ∷ []
   -- "Kueppers, N = 1: 128, 0, 0 is cyan; 127, 0, 0 white."
   pub kueppers-cyan : colorantOf (screenOf 1 2 1 1 0) Kueppers (inksOf 128 0 0) 0 ≡ 0
   pub kueppers-white : colorantOf (screenOf 1 2 1 1 0) Kueppers (inksOf 127 0 0) 0 ≡ 7

@@ -1,13 +1,13 @@
 // What a renderer needs for a cell, without a division: thresholds once a call, levels once a colour.
 ghost use mathlib.Core.Path.{_≡_};
 ghost use mathlib.Core.List.{_++_};
-ghost use Prim.Native.Nat.{ℕ, suc, _+_, _*_, _≤_, _<_};
+ghost use Prim.Native.Nat.{ℕ, suc, _+_, _-_, _*_, _≤_, _<_};
 ghost use lib.ListN.{length, getD, drop};
 ghost use Rattle.arith.specs.Sum.{sumBelow};
 ghost use Rattle.arith.specs.Run.{upto};
 ghost use Rattle.screen.specs.Screens.{Admitted};
 ghost use Rattle.screen.specs.Brick.{bufferRefusal};
-ghost use Rattle.quantiser.specs.Leaves.{levelsOf, thresholdOf, thresholdFor, thresholdsIn, rank};
+ghost use Rattle.quantiser.specs.Leaves.{levelsOf, thresholdOf, thresholdsIn, rank};
 use screen::Screen;
 use separation::Inks;
 use separation::Separation;
@@ -52,55 +52,30 @@ pub fn thresholds(s: Screen, table: &mut [u16]) -> u32
     0
 }
 
-// Writes k, 2 k, .. up to n for the first subscreen, then k - 1, 2 k - 1, .. for the second, and so on.
+// Writes the thresholds of the phases, one subscreen after the other.
 fn rank_phases(s: Screen, table: &mut [u16])
     requires { ⌜ Admitted s × (s .n ≤ length (now table)) ⌝ }
     ensures { λ _. ⌜ now (table .exit) ≡ upto (thresholdOf s) (s .n) ++ drop (s .n) (now (table .entry)) ⌝ }
 {
-    let mut subscreen = 0;
-    let mut threshold = s.k;
-    let mut phase = 0;
-    while phase < s.n {
-        table[phase as usize] = threshold as u16;
-        threshold += s.k;
-        if s.n < threshold {
-            subscreen += 1;
-            threshold = s.k - subscreen;
-        }
-        phase += 1;
-    }
-}
-
-// The threshold of one phase, or 0 where the screen is refused or has no such phase.
-pub fn threshold(s: Screen, phase: u32) -> u32
-    ensures { λ r. ⌜ r ≡ thresholdFor s phase ⌝ }
-{
-    if screen::refusal(s) != 0 {
-        return 0;
-    }
-    if s.n <= phase {
-        return 0;
-    }
-    rank_phase(s, phase)
-}
-
-// The threshold of a phase, its subscreen being looked for from the first on.
-fn rank_phase(s: Screen, phase: u32) -> u32
-    requires { ⌜ Admitted s × (phase < s .n) ⌝ }
-    ensures { λ r. ⌜ r ≡ thresholdOf s phase ⌝ }
-{
     let mut start = 0;
-    let mut subscreen = 0;
-    while subscreen < s.k {
-        let distance = phase - start;
+    for subscreen in 0..s.k {
         let size = (s.n + subscreen) / s.k;
-        if distance < size {
-            return (distance + 1) * s.k - subscreen;
-        }
-        start += size;
-        subscreen += 1;
+        let next = start + size as usize;
+        rank_subscreen(s.k, subscreen, &mut table[start..next]);
+        start = next;
     }
-    0
+}
+
+// Writes the thresholds of a subscreen's cells: k, 2 k, .. for the first, k - 1, 2 k - 1, .. for the second.
+fn rank_subscreen(k: u32, subscreen: u32, out: &mut [u16])
+    requires { ⌜ (subscreen < k) × (length (now out) * k ≤ 65535) ⌝ }
+    ensures { λ _. ⌜ now (out .exit) ≡ upto (λ q. (q + 1) * k - subscreen) (length (now (out .entry))) ⌝ }
+{
+    let mut threshold = k - subscreen;
+    for q in 0..out.len() {
+        out[q] = threshold as u16;
+        threshold += k;
+    }
 }
 
 // The colorant of a cell: how many of the first seven levels its threshold, scaled as they are, is above.

@@ -5,6 +5,5 @@ mod counting;
 
 pub use cells::colorant_of;
 pub use cells::levels;
-pub use cells::threshold;
 pub use cells::thresholds;
 pub use counting::counts;

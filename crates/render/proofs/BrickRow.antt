@@ -15,60 +15,56 @@ use Rattle.screen.specs.Screens.{Admitted}
 use Rattle.screen.specs.Phase.{phase}
 use Rattle.screen.specs.Brick.{columns, rows, shift, TrueBrick, brickPlace}
 use Rattle.screen.proofs.Published.{phase-below, brick-size, shift-words, read-from-brick}
-use Rattle.render.specs.Rows.{BrickInput}
+use Rattle.render.specs.Rows.{BrickLent, numberRead}
 
--- the part of a brick that is the line of row y
-abbrev lineOf : ℕ → ℕ → List ℕ → ℕ → List ℕ
-lineOf columns rows brick y = take (y % rows * columns + columns - y % rows * columns) (drop (y % rows * columns) brick)
+-- the part of a brick that is the line of row y, and the column in it that a row begins in
+abbrev lineOf : Brick → List ℕ → ℕ → List ℕ
+lineOf size brick y = take (y % size .rows * size .columns + size .columns - y % size .rows * size .columns) (drop (y % size .rows * size .columns) brick)
 
-module _ {n columns rows shift : ℕ} {brick : List ℕ} (b : BrickInput n columns rows shift brick) (few : n ≤ 4096) where
-  columns-few : columns ≤ n
-  columns-few = rw (← b .size, mul-comm rows columns) (le-mul-of-pos-right columns (b .high))
+abbrev firstOf : Brick → ℕ → ℕ → ℕ
+firstOf size x y = (x % size .columns + size .columns - size .shift * (y / size .rows) % size .columns) % size .columns
 
-  pub columns-limit : columns ≤ 4096
-  columns-limit = le-trans columns-few few
+module _ {n : ℕ} {size : Brick} {brick : List ℕ} (b : BrickLent n size brick) (few : n ≤ 4096) where
+  pub columns-limit : size .columns ≤ 4096
+  columns-limit = le-trans (rw (← b .places, mul-comm (size .rows) (size .columns)) (le-mul-of-pos-right (size .columns) (b .high))) few
 
-  pub behind-fits : (y : ℕ) → y < 65536 → shift * (y / rows) ≤ 4096 * 65536
-  behind-fits y l = mul-le-mul {n₁ = shift} {m₁ = y / rows} {n₂ = 4096} {m₂ = 65536} (omega (arith, b .shifted, columns-limit)) (omega (arith, div-le-self y rows))
+  pub behind-fits : (y : ℕ) → y < 65536 → size .shift * (y / size .rows) ≤ 4096 * 65536
+  behind-fits y l =
+      mul-le-mul {n₁ = size .shift} {m₁ = y / size .rows} {n₂ = 4096} {m₂ = 65536} (omega (arith, b .shifted, columns-limit)) (omega (arith, div-le-self y (size .rows)))
 
   -- it lies within the brick
-  pub line-fits : (y : ℕ) → y % rows * columns + columns ≤ n
-  line-fits y = omega (arith, mul-le-mul-right columns (mod-lt y (b .high)), b .size)
+  pub line-fits : (y : ℕ) → y % size .rows * size .columns + size .columns ≤ n
+  line-fits y = omega (arith, mul-le-mul-right (size .columns) (mod-lt y (b .high)), b .places)
 
-  pub line-length : (y : ℕ) → length (lineOf columns rows brick y) ≡ columns
-  line-length y = part-length (y % rows * columns) columns brick (omega (arith, line-fits y, b .long))
+  pub line-length : (y : ℕ) → length (lineOf size brick y) ≡ size .columns
+  line-length y = part-length (y % size .rows * size .columns) (size .columns) brick (omega (arith, line-fits y, b .long))
 
-  line-at : (y i : ℕ) → i < columns → getD (lineOf columns rows brick y) i 0 ≡ getD brick (y % rows * columns + i) 0
-  line-at y i l = part-at (y % rows * columns) (y % rows * columns + columns) brick i (omega arith)
+  line-at : (y i : ℕ) → i < size .columns → getD (lineOf size brick y) i 0 ≡ getD brick (y % size .rows * size .columns + i) 0
+  line-at y i l = part-at (y % size .rows * size .columns) (y % size .rows * size .columns + size .columns) brick i (omega arith)
 
-  pub line-low : (y i : ℕ) → i < columns → getD (lineOf columns rows brick y) i 0 < n
-  line-low y i l = rw (line-at y i l) (b .low (y % rows * columns + i) (omega (arith, line-fits y)))
+  pub line-low : (y i : ℕ) → i < size .columns → getD (lineOf size brick y) i 0 < n
+  line-low y i l = rw (line-at y i l) (b .low (y % size .rows * size .columns + i) (omega (arith, line-fits y)))
 
-  -- the column that a row begins in
-  pub first-below : (x y : ℕ) → (x % columns + columns - shift * (y / rows) % columns) % columns < columns
-  first-below x y = mod-lt _ (b .wide)
-
-  pub line-reads : (x y i : ℕ)
-      → getD (lineOf columns rows brick y) (((x % columns + columns - shift * (y / rows) % columns) % columns + i) % columns) 0
-      ≡ getD brick (brickPlace columns rows shift (x + i) y) 0
+  pub line-reads : (x y i : ℕ) → getD (lineOf size brick y) ((firstOf size x y + i) % size .columns) 0 ≡ numberRead size brick (x + i) y
   unfolding brickPlace
   line-reads x y i =
+      let behind : ℕ = size .shift * (y / size .rows) in
       line-at y _ (mod-lt _ (b .wide))
-      ∙ ap (λ (z : ℕ). getD brick (y % rows * columns + z) 0)
-      (ap (λ (z : ℕ). (z + i) % columns) (remainder-apart x (shift * (y / rows)) columns (b .wide)) ∙ remainder-on x (shift * (y / rows)) columns i (b .wide))
+      ∙ ap (λ (z : ℕ). getD brick (y % size .rows * size .columns + z) 0)
+      (ap (λ (z : ℕ). (z + i) % size .columns) (remainder-apart x behind (size .columns) (b .wide)) ∙ remainder-on x behind (size .columns) i (b .wide))
 
 -- ---- a true brick
 
 module _ (s : Screen) (ok : Admitted s) (brick : List ℕ) (holds : TrueBrick s brick) (size : Brick) (e : size ≡ record { refusal = 0; columns = columns s; rows = rows s; shift = shift s }) where
   -- has what a row's function asks
-  pub brick-input : BrickInput (s .n) (size .columns) (size .rows) (size .shift) brick
-  brick-input =
+  pub brick-lent : BrickLent (s .n) size brick
+  brick-lent =
       let sizes = brick-size s ok in
       rw e
       record {
         wide = sizes .0;
         high = sizes .1;
-        size = sizes .2;
+        places = sizes .2;
         shifted = shift-words s ok .0;
         long = holds ok .0;
         low = low;
@@ -82,5 +78,5 @@ module _ (s : Screen) (ok : Admitted s) (brick : List ℕ) (holds : TrueBrick s 
           rw at (phase-below s ok _ _)
 
   -- and has the phases of the sheet
-  pub brick-reads : (x y : ℕ) → getD brick (brickPlace (size .columns) (size .rows) (size .shift) x y) 0 ≡ phase s x y
+  pub brick-reads : (x y : ℕ) → numberRead size brick x y ≡ phase s x y
   brick-reads x y = rw e (read-from-brick s ok brick holds x y .0)

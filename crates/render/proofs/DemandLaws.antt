@@ -13,8 +13,8 @@ use lib.Dec.{eqb}
 use lib.ListN.{length, getD}
 use Rattle.arith.specs.Sum.{sumBelow, indicator}
 use Rattle.arith.specs.Tally.{tally}
-use Rattle.arith.specs.Refusal.{answered, written}
-use Rattle.arith.proofs.RefusalLaws.{answered-whole, written-all}
+use Rattle.arith.specs.Refusal.{written}
+use Rattle.arith.proofs.RefusalLaws.{written-all}
 use Rattle.arith.proofs.RunLaws.{upto-at}
 use Rattle.arith.proofs.SumLaws.{sum-same, sum-places, sum-window, sum-along}
 use Rattle.arith.proofs.TallyLaws.{tally-upto}
@@ -31,7 +31,7 @@ use Rattle.quantiser.specs.Running.{count}
 use Rattle.quantiser.proofs.Published.{count-share, subscreen-share, phases-in-all}
 use Rattle.render.specs.declared.Window.{Window}
 use Rattle.render.specs.declared.Rendering.{Rendering}
-use Rattle.render.specs.Windows.{area, cellOf, windowCell, windowCells}
+use Rattle.render.specs.Windows.{area, cellOf, windowCell, windowCells, talliesOf}
 use Rattle.render.specs.Answers.{windowRefusal, brickRefusal, answerOf, rendering, rendered, brickRendering, brickRendered}
 use Rattle.render.specs.Demand.{Brickwork, Even, Demand3, Agreement, bytesInSubscreen}
 use Rattle.render.proofs.RefusalLaws.{window-whole, window-kept, true-due, brick-window, brick-whole}
@@ -104,10 +104,8 @@ module _ (s : Screen) (sep : Separation) (w : Window) (input out : List ℕ) (in
 
   -- the tallies are the cells'
   all-tallied : (j : ℕ) → j < 8 → getD (rendering s sep w input out .tallies) j 0 ≡ tally j (windowCells s sep w input)
-  unfolding rendering answerOf
-  all-tallied j l =
-      upto-at (λ j. answered (windowRefusal s w (length input) (length out)) (tally j (windowCells s sep w input))) 8 j l
-      ∙ answered-whole (windowRefusal s w (length input) (length out)) (tally j (windowCells s sep w input)) not-refused
+  unfolding rendering answerOf talliesOf
+  all-tallied j l = rw not-refused (upto-at (λ j. tally j (windowCells s sep w input)) 8 j l)
 
   -- the output is the cells
   all-written : rendered s sep w input out ≡ windowCells s sep w input

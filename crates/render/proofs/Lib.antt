@@ -1,8 +1,8 @@
 pub mod Published
+pub mod AllMarks
 mod RefusalLaws
 mod AnswerLaws
 mod RowLoop
 mod BrickRow
 mod WindowLoop
-mod PrepareLoop
 mod DemandLaws

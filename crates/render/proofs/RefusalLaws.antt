@@ -12,11 +12,15 @@ use lib.Dec.{eqb, leb}
 use lib.ListN.{length, getD}
 use borrow.Author.Tests.{leb-true, eqb-true, le-leb, lt-leb, eq-eqb, ne-eqb}
 use Rattle.arith.specs.Every.{every}
+use Rattle.arith.specs.Run.{zeros}
+use Rattle.arith.specs.Sheet.{onSheet}
 use Rattle.arith.proofs.EveryLaws.{every-passes, every-made, every-same}
+use Rattle.arith.proofs.RunLaws.{zeros-length}
+use Rattle.arith.proofs.SheetLaws.{off-right, off-below, on-sheet, sheet-kept}
 use Rattle.arith.proofs.RefusalLaws.{both-pass, unless-none, or-none, refused-first, refused-later}
 use Rattle.screen.specs.declared.Screen.{Screen}
 use Rattle.screen.specs.Screens.{refusalOf, Admitted}
-use Rattle.screen.specs.Phase.{onSheet, phase}
+use Rattle.screen.specs.Phase.{phase}
 use Rattle.screen.specs.Brick.{columns, phaseAtPlace, filled, TrueBrick}
 use Rattle.screen.proofs.Published.{admitted-words, brick-size, filled-is-true}
 use Rattle.render.specs.declared.Window.{Window}
@@ -36,37 +40,41 @@ module _ (s : Screen) (w : Window) (inputs outputs : ℕ) where
 
   -- what a window that is not refused keeps
   pub window-kept : windowRefusal s w inputs outputs ≡ 0 → Admitted s × (w .x + w .columns ≤ 65536) × (w .y + w .rows ≤ 65536) × (inputs ≡ 3 * area w) × (outputs ≡ area w)
-  unfolding windowRefusal onSheet
+  unfolding windowRefusal
   window-kept e =
       let screen = or-none (refusalOf s) _ e in
       let five = unless-none (onSheet (w .x) (w .y) (w .columns) (w .rows)) 4 _ (screen .1) in
       let six = unless-none _ 5 _ (five .1) in
-      let sheet = both-pass _ _ (five .0) in
-      (screen .0, leb-true _ _ (sheet .0), leb-true _ _ (sheet .1), eqb-true _ _ (six .0), eqb-true _ _ (unless-none _ 6 0 (six .1) .0))
+      let sheet = sheet-kept _ _ _ _ (five .0) in
+      (screen .0, sheet .0, sheet .1, eqb-true _ _ (six .0), eqb-true _ _ (unless-none _ 6 0 (six .1) .0))
 
   module _ (e : refusalOf s ≡ 0) where
     pub window-right : 65536 < w .x + w .columns → 5 ≡ windowRefusal s w inputs outputs
-    unfolding windowRefusal onSheet
-    window-right h = sym (refused-later (refusalOf s) _ e ∙ rw (lt-leb _ _ h))
+    unfolding windowRefusal
+    window-right h = sym (refused-later (refusalOf s) _ e ∙ rw (off-right _ _ _ _ h))
 
     module _ (right : w .x + w .columns ≤ 65536) where
       pub window-down : 65536 < w .y + w .rows → 5 ≡ windowRefusal s w inputs outputs
-      unfolding windowRefusal onSheet
-      window-down h = sym (refused-later (refusalOf s) _ e ∙ rw (le-leb _ _ right, lt-leb _ _ h))
+      unfolding windowRefusal
+      window-down h = sym (refused-later (refusalOf s) _ e ∙ rw (off-below _ _ _ _ right h))
 
       module _ (down : w .y + w .rows ≤ 65536) where
         pub window-input : (inputs ≡ 3 * area w → ⊥) → 6 ≡ windowRefusal s w inputs outputs
-        unfolding windowRefusal onSheet
-        window-input h = sym (refused-later (refusalOf s) _ e ∙ rw (le-leb _ _ right, le-leb _ _ down, ne-eqb _ _ h))
+        unfolding windowRefusal
+        window-input h = sym (refused-later (refusalOf s) _ e ∙ rw (on-sheet _ _ _ _ right down, ne-eqb _ _ h))
 
         module _ (input : inputs ≡ 3 * area w) where
           pub window-output : (outputs ≡ area w → ⊥) → 7 ≡ windowRefusal s w inputs outputs
-          unfolding windowRefusal onSheet
-          window-output h = sym (refused-later (refusalOf s) _ e ∙ rw (le-leb _ _ right, le-leb _ _ down, eq-eqb _ _ input, ne-eqb _ _ h))
+          unfolding windowRefusal
+          window-output h = sym (refused-later (refusalOf s) _ e ∙ rw (on-sheet _ _ _ _ right down, eq-eqb _ _ input, ne-eqb _ _ h))
 
           pub window-whole : outputs ≡ area w → 0 ≡ windowRefusal s w inputs outputs
-          unfolding windowRefusal onSheet
-          window-whole h = sym (refused-later (refusalOf s) _ e ∙ rw (le-leb _ _ right, le-leb _ _ down, eq-eqb _ _ input, eq-eqb _ _ h))
+          unfolding windowRefusal
+          window-whole h = sym (refused-later (refusalOf s) _ e ∙ rw (on-sheet _ _ _ _ right down, eq-eqb _ _ input, eq-eqb _ _ h))
+
+-- 4,096 places are enough for an admitted screen
+pub places-enough : (s : Screen) → Admitted s → (memory : List ℕ) → memory ≡ zeros 4096 → s .n ≤ length memory
+places-enough s ok memory e = rw (e, zeros-length) (admitted-words s .0 ok .cells-limit)
 
 -- ---- 8: the brick
 
@@ -112,8 +120,8 @@ due-compared s brick due e room holds =
     rw (le-leb _ _ room) (every-same (s .n) _ _ (λ i l. ap (λ (p : ℕ). eqb (getD brick i 0) p) (true-at s due e holds i l)))
 
 -- and 4,096 places that were filled are one
-pub due-filled : (s : Screen) (memory due : List ℕ) → Admitted s → 4096 ≡ length memory → due ≡ filled s memory → TrueBrick s due
-due-filled s memory due e l h = rw h (filled-is-true s memory (omega (arith, admitted-words s .0 e .cells-limit)))
+pub due-filled : (s : Screen) (memory due : List ℕ) → Admitted s → memory ≡ zeros 4096 → due ≡ filled s memory → TrueBrick s due
+due-filled s memory due e q h = rw h (filled-is-true s memory (places-enough s e memory q))
 
 module _ (s : Screen) (w : Window) (inputs outputs : ℕ) (brick : List ℕ) where
   pub brick-window : (windowRefusal s w inputs outputs ≡ 0 → ⊥) → windowRefusal s w inputs outputs ≡ brickRefusal s w inputs outputs brick

@@ -1,24 +1,24 @@
 -- Document 01, 'Renderers and tally' and 'When a call is refused': what the calls answer, and what they leave in the output.
 -- Assumes nothing: these are definitions.
 use Prim.Native.Nat.{ℕ, _*_}
-use mathlib.Core.Bool.{Bool, _&&_}
+use mathlib.Core.Bool.{Bool, cond, _&&_}
 use mathlib.Core.List.{List}
 use lib.ListN.{length, getD}
 use lib.Dec.{eqb, leb}
 use Rattle.arith.specs.Every.{every}
-use Rattle.arith.specs.Run.{upto}
-use Rattle.arith.specs.Tally.{tally}
+use Rattle.arith.specs.Run.{zeros}
 use Rattle.arith.specs.Refusal.{unless, orElse, answered, written}
+use Rattle.arith.specs.Sheet.{onSheet}
 use Rattle.screen.specs.declared.Screen.{Screen}
 use Rattle.screen.specs.Screens.{refusalOf}
-use Rattle.screen.specs.Phase.{onSheet, placeRefusal}
+use Rattle.screen.specs.Phase.{placeRefusal}
 use Rattle.screen.specs.Brick.{phaseAtPlace}
 use Rattle.separation.specs.declared.Separation.{Separation}
 use Rattle.separation.specs.declared.Inks.{Inks}
 use Rattle.render.specs.declared.Window.{Window}
 use Rattle.render.specs.declared.Rendering.{Rendering}
 use Rattle.render.specs.declared.Cell.{Cell}
-use Rattle.render.specs.Windows.{area, cellOf, windowCells}
+use Rattle.render.specs.Windows.{area, cellOf, windowCells, talliesOf}
 
 -- Refusals of a window on a screen with input and output of the given lengths: 1 to 4; 5, "X + W or Y + R above 65,536"; 6, "input
 -- length not the stated one"; 7, "output length not the stated one".
@@ -38,7 +38,7 @@ brickRefusal s w inputs outputs brick = orElse (windowRefusal s w inputs outputs
 
 -- what a renderer answers for cells, given its refusal: "both return the same number and eight zeros"
 unfoldable pub answerOf : ℕ → List ℕ → Rendering
-answerOf refusal cells = record { refusal = refusal; tallies = upto (λ j. answered refusal (tally j cells)) 8 }
+answerOf refusal cells = record { refusal = refusal; tallies = cond (eqb refusal 0) (talliesOf cells) (zeros 8) }
 
 -- `render`: its answer and the output that it leaves
 unfoldable pub rendering : Screen → Separation → Window → List ℕ → List ℕ → Rendering

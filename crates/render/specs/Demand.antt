@@ -1,13 +1,12 @@
 -- Demand 3, in the paper's words and order. Both renderers' contracts cite it; that they agree is `Agreement`.
 -- Assumes nothing: these are statements.
-use Prim.Native.Nat.{ℕ, _+_, _*_, _/_, _≤_, _<_}
+use Prim.Native.Nat.{ℕ, _+_, _*_, _≤_, _<_}
 use mathlib.Core.Path.{_≡_}
 use mathlib.Core.Bool.{_&&_}
 use mathlib.Core.List.{List}
 use lib.ListN.{length, getD}
 use lib.Dec.{eqb}
 use Rattle.arith.specs.Sum.{sumBelow, indicator}
-use Rattle.arith.specs.Rounding.{roundedUp}
 use Rattle.arith.specs.Tally.{tally}
 use Rattle.screen.specs.declared.Screen.{Screen}
 use Rattle.screen.specs.Screens.{Admitted}
@@ -16,10 +15,10 @@ use Rattle.screen.specs.Brick as Brick
 use Rattle.screen.specs.Laws.{times}
 use Rattle.separation.specs.declared.Separation.{Separation}
 use Rattle.separation.specs.declared.Inks.{Inks}
-use Rattle.separation.specs.Weights.{weight, scaleOf}
 use Rattle.separation.specs.Laws.{InkValues}
 use Rattle.quantiser.specs.Running.{count}
 use Rattle.quantiser.specs.Subscreens.{subscreenOf}
+use Rattle.quantiser.specs.Laws.{ShareRounded, SplitEvenly}
 use Rattle.render.specs.declared.Window.{Window}
 use Rattle.render.specs.declared.Rendering.{Rendering}
 use Rattle.render.specs.Windows.{area, inksAt}
@@ -45,6 +44,10 @@ bytesInSubscreen s w out i j k colorant =
     sumBelow (Brick.rows s) (λ r. sumBelow (Brick.columns s) (λ c.
     indicator (eqb (subscreenOf s (phase s (w .x + (i + c)) (w .y + (j + r)))) k && eqb (getD out ((j + r) * w .columns + (i + c)) 0) colorant)))
 
+-- a tally is u × v times its colorant's quantised count
+abbrev pub Counted : Screen → Separation → Inks → ℕ → ℕ → List ℕ → ℕ → Type 0
+Counted s sep inks u v tallies j = getD tallies j 0 ≡ u * v * count s sep inks j
+
 pub record Even (s : Screen) (sep : Separation) (w : Window) (inks : Inks) (u v : ℕ) (answer : Rendering) (out : List ℕ) : Type 0 where
   -- "neither renderer refuses it"
   pub not-refused : answer .refusal ≡ 0
@@ -53,14 +56,12 @@ pub record Even (s : Screen) (sep : Separation) (w : Window) (inks : Inks) (u v 
   -- "tallies equal the cells written", "the output bytes that equal its number"
   pub written : (j : ℕ) → j < 8 → getD (answer .tallies) j 0 ≡ tally j out
   -- "and are u × v times the quantised counts"
-  pub counted : (j : ℕ) → j < 8 → getD (answer .tallies) j 0 ≡ u * v * count s sep inks j
+  pub counted : (j : ℕ) → j < 8 → Counted s sep inks u v (answer .tallies) j
   -- "counts are shares rounded down or up"
-  pub shares : (j : ℕ) → j < 8
-      → (s .n * weight sep inks j / scaleOf sep ≤ count s sep inks j) × (count s sep inks j ≤ roundedUp (s .n * weight sep inks j) (scaleOf sep))
+  pub shares : (j : ℕ) → j < 8 → ShareRounded s sep inks j
   -- "subscreens split them evenly", in "any L neighbouring columns by H neighbouring rows of it, wherever they begin"
   pub subscreens : (i j : ℕ) → i + Brick.columns s ≤ w .columns → j + Brick.rows s ≤ w .rows → (k colorant : ℕ) → k < s .k → colorant < 8
-      → (count s sep inks colorant / s .k ≤ bytesInSubscreen s w out i j k colorant)
-      × (bytesInSubscreen s w out i j k colorant ≤ roundedUp (count s sep inks colorant) (s .k))
+      → SplitEvenly s sep inks colorant (bytesInSubscreen s w out i j k colorant)
 
 -- what a renderer promises of its answer and its output
 abbrev pub Demand3 : Screen → Separation → Window → List ℕ → ℕ → Rendering → List ℕ → Type 0

@@ -1,5 +1,6 @@
 pub mod Windows
 pub mod Answers
+pub mod Laws
 pub mod Rows
-pub mod Tables
 pub mod Demand
+pub mod Marks

@@ -9,6 +9,7 @@ use Rattle.screen.specs.declared.Screen.{Screen}
 use Rattle.screen.specs.Phase.{phase}
 use Rattle.separation.specs.declared.Separation.{Separation}
 use Rattle.separation.specs.declared.Inks.{Inks}
+use Rattle.separation.specs.Weights.{inksOf}
 use Rattle.quantiser.specs.Subscreens.{colorantOf}
 use Rattle.render.specs.declared.Window.{Window}
 
@@ -18,7 +19,7 @@ area w = w .columns * w .rows
 
 -- "Input: 3 × W × R bytes, c, m, y a pixel, row by row." The ink values of pixel i.
 abbrev pub inksAt : List ℕ → ℕ → Inks
-inksAt input i = record { c = getD input (3 * i) 0; m = getD input (3 * i + 1) 0; y = getD input (3 * i + 2) 0 }
+inksAt input i = inksOf (getD input (3 * i) 0) (getD input (3 * i + 1) 0) (getD input (3 * i + 2) 0)
 
 -- the colorant of a place for ink values of its own
 unfoldable pub cellOf : Screen → Separation → ℕ → ℕ → Inks → ℕ

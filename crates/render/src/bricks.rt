@@ -1,8 +1,8 @@
 // A row of cells whose phases are read from a brick.
+ghost use mathlib.Core.Path.{_≡_};
 ghost use Prim.Native.Nat.{ℕ, _+_, _%_, _≤_, _<_};
 ghost use lib.ListN.{length, getD};
-ghost use Rattle.screen.specs.Brick.{brickPlace};
-ghost use Rattle.render.specs.Rows.{RowInput, BrickInput, Written};
+ghost use Rattle.render.specs.Rows.{Table, BrickLent, numberRead, Cells, RowLent, talliedOn};
 use crate::cells::carry;
 use crate::cells::painted;
 use crate::cells::unpainted;
@@ -23,9 +23,10 @@ pub(crate) fn brick_row(
     out: &mut [u8],
     tallies: &mut [u64; 8],
 )
-    requires { ⌜ RowInput n (now table) (length (now input)) (length (now out)) (now tallies) ⌝ }
-    requires { ⌜ BrickInput n (size .columns) (size .rows) (size .shift) (now brick) × (y < 65536) ⌝ }
-    ensures { λ _. ⌜ Written n sep (now (table .entry)) (λ i. getD (now (brick .entry)) (brickPlace (size .columns) (size .rows) (size .shift) (x + i) y) 0) (now (input .entry)) (now (tallies .entry)) (length (now (out .entry))) (now (tallies .exit)) (now (out .exit)) ⌝ }
+    requires { ⌜ Table n (now table) × BrickLent n size (now brick) × (y < 65536) ⌝ }
+    requires { ⌜ RowLent (length (now input)) (length (now out)) (now tallies) ⌝ }
+    ensures cells { λ _. ⌜ Cells n sep (now (table .entry)) (now (input .entry)) (λ i. numberRead size (now (brick .entry)) (x + i) y) (length (now (out .entry))) (now (out .exit)) ⌝ }
+    ensures counts { λ _. ⌜ now (tallies .exit) ≡ talliedOn (now (tallies .entry)) (now (out .exit)) ⌝ }
 {
     let columns = size.columns;
     let rows = size.rows;
@@ -48,9 +49,10 @@ fn line(
     out: &mut [u8],
     tallies: &mut [u64; 8],
 )
-    requires { ⌜ RowInput n (now table) (length (now input)) (length (now out)) (now tallies) ⌝ }
-    requires { ⌜ (first < length (now phases)) × (length (now phases) ≤ 4096) × ((i : ℕ) → i < length (now phases) → getD (now phases) i 0 < n) ⌝ }
-    ensures { λ _. ⌜ Written n sep (now (table .entry)) (λ i. getD (now (phases .entry)) ((first + i) % length (now (phases .entry))) 0) (now (input .entry)) (now (tallies .entry)) (length (now (out .entry))) (now (tallies .exit)) (now (out .exit)) ⌝ }
+    requires { ⌜ Table n (now table) × (first < length (now phases)) × (length (now phases) ≤ 4096) × ((i : ℕ) → i < length (now phases) → getD (now phases) i 0 < n) ⌝ }
+    requires { ⌜ RowLent (length (now input)) (length (now out)) (now tallies) ⌝ }
+    ensures cells { λ _. ⌜ Cells n sep (now (table .entry)) (now (input .entry)) (λ i. getD (now (phases .entry)) ((first + i) % length (now (phases .entry))) 0) (length (now (out .entry))) (now (out .exit)) ⌝ }
+    ensures counts { λ _. ⌜ now (tallies .exit) ≡ talliedOn (now (tallies .entry)) (now (out .exit)) ⌝ }
 {
     let columns = phases.len() as u32;
     let mut paint = unpainted(n, sep);

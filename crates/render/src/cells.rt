@@ -2,6 +2,7 @@
 ghost use mathlib.Core.Path.{_≡_};
 ghost use Prim.Native.Nat.{_+_, _*_, _%_, _≤_, _<_};
 ghost use lib.ListN.{length};
+ghost use Rattle.separation.specs.Weights.{inksOf};
 ghost use Rattle.quantiser.specs.Leaves.{levelsOf};
 ghost use Rattle.render.specs.Windows.{inksAt};
 ghost use Rattle.render.specs.Rows.{Own, paintOf};
@@ -19,9 +20,9 @@ pub struct Paint {
     pub cell: u8,
 }
 
-// Before the first cell: no ink.
+// Before the first cell: no ink, at the threshold 0, which is above no level.
 pub(crate) fn unpainted(n: u32, sep: Separation) -> Paint
-    ensures { λ r. ⌜ Own n sep r ⌝ }
+    ensures { λ r. ⌜ r ≡ paintOf n sep (inksOf 0 0 0) 0 ⌝ }
 {
     let unit = 2 * separation::scale(sep);
     let levels = quantiser::levels(n, sep, Inks { c: 0, m: 0, y: 0 });
@@ -67,7 +68,7 @@ pub(crate) fn painted(
 // The levels of some ink values, which are not worked out again where the last cell had them.
 fn levels_after(last: Paint, n: u32, sep: Separation, c: u8, m: u8, y: u8) -> [u64; 8]
     requires { ⌜ Own n sep last ⌝ }
-    ensures { λ r. ⌜ r ≡ levelsOf n sep (record { c = c; m = m; y = y }) ⌝ }
+    ensures { λ r. ⌜ r ≡ levelsOf n sep (inksOf c m y) ⌝ }
 {
     if last.c != c {
         return quantiser::levels(n, sep, Inks { c: c, m: m, y: y });

@@ -3,7 +3,6 @@ mod bricks;
 mod cells;
 mod refusals;
 mod rows;
-mod thresholds;
 mod windows;
 
 pub use windows::cell_at;

@@ -1,9 +1,10 @@
-// Why a window is refused: its screen, its place on the sheet, and the lengths of input and output.
+// Why a window is refused: its screen, its place on the sheet, the lengths of input and output, and its brick.
 ghost use mathlib.Core.Path.{_≡_};
 ghost use Prim.Native.Nat.{_≤_};
 ghost use lib.ListN.{length, getD};
 ghost use lib.Dec.{eqb};
 ghost use Rattle.arith.specs.Every.{every};
+ghost use Rattle.arith.specs.Run.{zeros};
 ghost use Rattle.screen.specs.Screens.{Admitted};
 ghost use Rattle.render.specs.Answers.{windowRefusal, dueIn};
 use crate::Window;
@@ -49,9 +50,9 @@ pub(crate) fn brick_due(s: Screen, brick: &[u16]) -> bool
     same_front(&due, brick, n)
 }
 
-// Room for as many numbers as a brick can have.
+// Room for a number for each phase that a screen can have, all 0: a brick, or a table of thresholds.
 pub(crate) fn places() -> [u16; 4096]
-    ensures { λ r. ⌜ 4096 ≡ length r ⌝ }
+    ensures { λ r. ⌜ r ≡ zeros 4096 ⌝ }
 {
     [0u16; 4096]
 }

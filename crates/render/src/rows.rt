@@ -1,7 +1,8 @@
 // A row of cells whose phases are worked out: the phase is carried from cell to cell.
+ghost use mathlib.Core.Path.{_≡_};
 ghost use Prim.Native.Nat.{_+_, _*_, _%_, _≤_, _<_};
 ghost use lib.ListN.{length};
-ghost use Rattle.render.specs.Rows.{RowInput, Written};
+ghost use Rattle.render.specs.Rows.{Table, Cells, RowLent, talliedOn};
 use crate::cells::carry;
 use crate::cells::painted;
 use crate::cells::unpainted;
@@ -19,8 +20,10 @@ pub(crate) fn row(
     out: &mut [u8],
     tallies: &mut [u64; 8],
 )
-    requires { ⌜ RowInput n (now table) (length (now input)) (length (now out)) (now tallies) × (first < n) × (step ≤ n) ⌝ }
-    ensures { λ _. ⌜ Written n sep (now (table .entry)) (λ i. (first + step * i) % n) (now (input .entry)) (now (tallies .entry)) (length (now (out .entry))) (now (tallies .exit)) (now (out .exit)) ⌝ }
+    requires { ⌜ Table n (now table) × (first < n) × (step ≤ n) ⌝ }
+    requires { ⌜ RowLent (length (now input)) (length (now out)) (now tallies) ⌝ }
+    ensures cells { λ _. ⌜ Cells n sep (now (table .entry)) (now (input .entry)) (λ i. (first + step * i) % n) (length (now (out .entry))) (now (out .exit)) ⌝ }
+    ensures counts { λ _. ⌜ now (tallies .exit) ≡ talliedOn (now (tallies .entry)) (now (out .exit)) ⌝ }
 {
     let mut paint = unpainted(n, sep);
     let mut phase = first;

@@ -1,14 +1,14 @@
 // The renderers.
 ghost use mathlib.Core.Path.{_≡_};
-ghost use Prim.Native.Nat.{_+_};
-ghost use lib.ListN.{length, getD};
-ghost use Rattle.screen.specs.Screens.{Admitted};
+ghost use Prim.Native.Nat.{_+_, _/_, _%_};
+ghost use lib.ListN.{length};
 ghost use Rattle.screen.specs.Phase.{phase};
-ghost use Rattle.screen.specs.Brick.{TrueBrick, brickPlace};
-ghost use Rattle.arith.specs.Run.{upto};
+ghost use Rattle.screen.specs.Brick.{TrueBrick};
+ghost use Rattle.arith.specs.Run.{zeros};
 ghost use Rattle.render.specs.Answers.{rendering, rendered, brickRendering, brickRendered, loneCell};
 ghost use Rattle.render.specs.Demand.{Demand3};
-ghost use Rattle.render.specs.Rows.{BrickInput, WindowInput, RowsWritten};
+ghost use Rattle.render.specs.Windows.{talliesOf};
+ghost use Rattle.render.specs.Rows.{TableOf, Table, BrickLent, numberRead, cellsBy, Cells, RowsLent};
 use crate::Cell;
 use crate::Rendering;
 use crate::Window;
@@ -17,7 +17,6 @@ use crate::refusals::brick_due;
 use crate::refusals::places;
 use crate::refusals::window_refusal;
 use crate::rows::row;
-use crate::thresholds::prepare;
 use screen::Brick;
 use screen::Screen;
 use separation::Inks;
@@ -38,7 +37,7 @@ pub fn render(s: Screen, sep: Separation, w: Window, input: &[u8], out: &mut [u8
         return nothing(0);
     }
     let mut table = places();
-    prepare(s, w.x, w.y, w.columns, w.rows, &mut table);
+    quantiser::thresholds(s, &mut table);
     let tallies = worked_rows(s, sep, &table, w.x, w.y, w.columns, w.rows, input, out);
     Rendering {
         refusal: 0,
@@ -71,7 +70,7 @@ pub fn render_brick(
         return nothing(0);
     }
     let mut table = places();
-    prepare(s, w.x, w.y, w.columns, w.rows, &mut table);
+    quantiser::thresholds(s, &mut table);
     let size = screen::brick_of(s);
     let tallies = read_rows(
         s.n,
@@ -120,7 +119,7 @@ fn widened(n: u8) -> u32
 
 // An answer with no cell in any colorant.
 fn nothing(refusal: u32) -> Rendering
-    ensures { λ r. ⌜ r ≡ record { refusal = refusal; tallies = upto (λ j. 0) 8 } ⌝ }
+    ensures { λ r. ⌜ r ≡ record { refusal = refusal; tallies = zeros 8 } ⌝ }
 {
     Rendering {
         refusal: refusal,
@@ -140,8 +139,9 @@ fn worked_rows(
     input: &[u8],
     out: &mut [u8],
 ) -> [u64; 8]
-    requires { ⌜ Admitted s × WindowInput (s .n) (now table) x y columns rows (length (now input)) (length (now out)) ⌝ }
-    ensures { λ r. ⌜ RowsWritten (s .n) sep (now (table .entry)) (λ u v. phase s (x + u) (y + v)) (now (input .entry)) columns rows r (now (out .exit)) ⌝ }
+    requires { ⌜ TableOf s (s .n) (now table) × RowsLent x y columns rows (length (now input)) (length (now out)) ⌝ }
+    ensures cells { λ _. ⌜ now (out .exit) ≡ cellsBy s sep (now (input .entry)) (λ i. phase s (x + i % columns) (y + i / columns)) (length (now (out .entry))) ⌝ }
+    ensures counts { λ r. ⌜ r ≡ talliesOf (now (out .exit)) ⌝ }
 {
     let wide = columns as usize;
     let step = s.a % s.n;
@@ -181,8 +181,9 @@ fn read_rows(
     input: &[u8],
     out: &mut [u8],
 ) -> [u64; 8]
-    requires { ⌜ BrickInput n (size .columns) (size .rows) (size .shift) (now brick) × WindowInput n (now table) x y columns rows (length (now input)) (length (now out)) ⌝ }
-    ensures { λ r. ⌜ RowsWritten n sep (now (table .entry)) (λ u v. getD (now (brick .entry)) (brickPlace (size .columns) (size .rows) (size .shift) (x + u) (y + v)) 0) (now (input .entry)) columns rows r (now (out .exit)) ⌝ }
+    requires { ⌜ Table n (now table) × BrickLent n size (now brick) × RowsLent x y columns rows (length (now input)) (length (now out)) ⌝ }
+    ensures cells { λ _. ⌜ Cells n sep (now (table .entry)) (now (input .entry)) (λ i. numberRead size (now (brick .entry)) (x + i % columns) (y + i / columns)) (length (now (out .entry))) (now (out .exit)) ⌝ }
+    ensures counts { λ r. ⌜ r ≡ talliesOf (now (out .exit)) ⌝ }
 {
     let wide = columns as usize;
     let mut tallies = [0u64; 8];

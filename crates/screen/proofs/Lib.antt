@@ -1,5 +1,5 @@
 pub mod Published
-pub mod Worked
+pub mod AllMarks
 mod Refusals
 mod PhaseLaws
 mod BrickLaws

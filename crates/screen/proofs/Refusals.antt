@@ -1,19 +1,21 @@
 -- Refusals from the tests that a call makes, one law a number; and what a call that is not refused has passed.
 -- Assumes nothing.
-use Prim.Native.Nat.{ℕ, _+_, _≤_, _<_}
+use Prim.Native.Nat.{ℕ, _≤_, _<_}
 use mathlib.Core.Path.{_≡_, sym, _∙_}
 use mathlib.Core.Bool.{true, false}
 use mathlib.Core.List.{List, _++_}
 use native.Mathlib.Omega.{arith}
 use lib.ListN.{length, drop}
 use borrow.Author.Tests.{leb-true, ltb-true, eqb-true, le-leb, lt-leb, lt-ltb, eq-eqb}
+use Rattle.arith.specs.Sheet.{onSheet}
 use Rattle.arith.proofs.RefusalLaws.{both-pass, unless-none, refused-first, refused-later, answered-none, answered-whole, written-none, written-whole, or-none}
 use Rattle.arith.proofs.RunLaws.{upto-length}
+use Rattle.arith.proofs.SheetLaws.{off-right, off-below, on-sheet, sheet-kept}
 use Rattle.screen.specs.declared.Screen.{Screen}
 use Rattle.screen.specs.declared.places.Place.{Place}
 use Rattle.screen.specs.declared.bricks.Brick.{Brick}
 use Rattle.screen.specs.Screens.{slopeAdmitted, cellsAdmitted, subscreensAdmitted, offsetAdmitted, refusalOf, Admitted, Limits}
-use Rattle.screen.specs.Phase.{onSheet, phase, placeRefusal, placeOf}
+use Rattle.screen.specs.Phase.{phase, placeRefusal, placeOf}
 use Rattle.screen.specs.Brick.{columns, rows, shift, brickOf, brickPhases, bufferRefusal, filled}
 use Rattle.screen.specs.Laws.{AdmittedWords}
 
@@ -94,24 +96,24 @@ module _ (s : Screen) (x y : ℕ) where
 
   module _ (e : refusalOf s ≡ 0) where
     pub column-off : 65536 ≤ x → 5 ≡ placeRefusal s x y
-    unfolding placeRefusal onSheet
-    column-off h = sym (refused-later (refusalOf s) _ e ∙ rw (lt-leb (x + 1) 65536 (omega arith)))
+    unfolding placeRefusal
+    column-off h = sym (refused-later (refusalOf s) _ e ∙ rw (off-right x y 1 1 (omega arith)))
 
     pub row-off : x < 65536 → 65536 ≤ y → 5 ≡ placeRefusal s x y
-    unfolding placeRefusal onSheet
-    row-off l h = sym (refused-later (refusalOf s) _ e ∙ rw (le-leb (x + 1) 65536 (omega arith), lt-leb (y + 1) 65536 (omega arith)))
+    unfolding placeRefusal
+    row-off l h = sym (refused-later (refusalOf s) _ e ∙ rw (off-below x y 1 1 (omega arith) (omega arith)))
 
     pub place-on : x < 65536 → y < 65536 → 0 ≡ placeRefusal s x y
-    unfolding placeRefusal onSheet
-    place-on l h = sym (refused-later (refusalOf s) _ e ∙ rw (le-leb (x + 1) 65536 (omega arith), le-leb (y + 1) 65536 (omega arith)))
+    unfolding placeRefusal
+    place-on l h = sym (refused-later (refusalOf s) _ e ∙ rw (on-sheet x y 1 1 (omega arith) (omega arith)))
 
   -- what a place that is not refused keeps
   pub place-kept : placeRefusal s x y ≡ 0 → Limits s × (x < 65536) × (y < 65536)
-  unfolding placeRefusal onSheet
+  unfolding placeRefusal
   place-kept e =
       let parts = or-none (refusalOf s) _ e in
-      let sheet = both-pass _ _ (unless-none (onSheet x y 1 1) 4 0 (parts .1) .0) in
-      (limits-kept s (parts .0), omega (arith, leb-true (x + 1) 65536 (sheet .0)), omega (arith, leb-true (y + 1) 65536 (sheet .1)))
+      let sheet = sheet-kept x y 1 1 (unless-none (onSheet x y 1 1) 4 0 (parts .1) .0) in
+      (limits-kept s (parts .0), omega (arith, sheet .0), omega (arith, sheet .1))
 
 -- ---- 8: a buffer that is too short
 

@@ -61,9 +61,12 @@ ShiftWords = (s : Screen) → Admitted s → (shift s < columns s) × (s .a * sh
 abbrev pub ShiftOnly : Type 0
 ShiftOnly = (s : Screen) → Admitted s → (t : ℕ) → t < columns s → s .a * t % s .n ≡ s .b * rows s % s .n → t ≡ shift s
 
--- "the phase at (x + S, y + H) is that at (x, y)"
+-- "the phase at (x + S, y + H) is that at (x, y)": of one place, and of all
+abbrev pub Shifted : Screen → ℕ → ℕ → Type 0
+Shifted s x y = phase s (x + shift s) (y + rows s) ≡ phase s x y
+
 abbrev pub ShiftLaw : Type 0
-ShiftLaw = (s : Screen) → Admitted s → (x y : ℕ) → phase s (x + shift s) (y + rows s) ≡ phase s x y
+ShiftLaw = (s : Screen) → Admitted s → (x y : ℕ) → Shifted s x y
 
 -- what `brick_of` answers for an admitted screen
 abbrev pub BrickAnswered : Type 0
@@ -93,9 +96,12 @@ BufferRefused =
 unfoldable pub times : Screen → ℕ → ℕ → ℕ → ℕ → ℕ → ℕ
 times s x y w r p = sumBelow r (λ j. sumBelow w (λ i. indicator (eqb (phase s (x + i) (y + j)) p)))
 
--- in any L neighbouring columns by H neighbouring rows, wherever they begin, each phase occurs exactly once
+-- in any L neighbouring columns by H neighbouring rows, wherever they begin, each phase occurs exactly once: one phase, and all
+abbrev pub Once : Screen → ℕ → ℕ → ℕ → Type 0
+Once s x y p = times s x y (columns s) (rows s) p ≡ 1
+
 abbrev pub EachPhaseOnce : Type 0
-EachPhaseOnce = (s : Screen) → Admitted s → (x y p : ℕ) → p < s .n → times s x y (columns s) (rows s) p ≡ 1
+EachPhaseOnce = (s : Screen) → Admitted s → (x y p : ℕ) → p < s .n → Once s x y p
 
 -- and in u × L columns by v × H rows exactly u × v times
 abbrev pub EachPhaseTimes : Type 0

@@ -1,9 +1,26 @@
--- The starred marks of document 01 that speak of bricks and phases. proofs/Worked.antt shows them from the definitions.
+-- The starred marks of document 01 that speak of bricks and phases, and small cases of what the calls and the laws say.
+-- proofs/AllMarks.antt shows them by computing the definitions.
 -- Assumes nothing: these are statements.
 use Prim.Native.Nat.{ℕ}
 use mathlib.Core.Path.{_≡_}
-use Rattle.screen.specs.Phase.{phaseOf}
-use Rattle.screen.specs.Brick.{rowsOf, columnsOf, shiftOf}
+use mathlib.Core.List.{[], _∷_}
+use Rattle.screen.specs.declared.Screen.{Screen}
+use Rattle.screen.specs.Screens.{screenOf, refusalOf}
+use Rattle.screen.specs.Phase.{phaseOf, placeRefusal}
+use Rattle.screen.specs.Brick.{rowsOf, columnsOf, shiftOf, filled, placeInBrick}
+use Rattle.screen.specs.Laws.{Shifted, Once}
+
+-- the screen of the counts program's listing
+abbrev pub listed : Screen
+listed = screenOf 4 7 105 2 0
+
+-- the refusals' table: a = 4, b = 8
+abbrev pub sloped : Screen
+sloped = screenOf 4 8 105 2 0
+
+-- the screen of two rows a brick
+abbrev pub tworowed : Screen
+tworowed = screenOf 4 7 70 2 0
 
 -- the screen of slope a/b and N cells has a brick of L columns, H rows and shift S
 abbrev pub BrickIs : ℕ → ℕ → ℕ → ℕ → ℕ → ℕ → Type 0
@@ -19,3 +36,13 @@ pub record Marks : Type 0 where
   -- "4/7, N = 105, g = 0: phase of (0, 1) is 98, of (3, 2) is 103."
   pub phase-98 : phaseOf 4 7 105 0 0 1 ≡ 98
   pub phase-103 : phaseOf 4 7 105 0 3 2 ≡ 103
+  -- a brick of 2 columns and 2 rows, whose first phase is that of −g; the fifth place stays as it is
+  pub filled-4 : filled (screenOf 2 3 4 1 1) (9 ∷ 9 ∷ 9 ∷ 9 ∷ 9 ∷ []) ≡ 3 ∷ 1 ∷ 0 ∷ 2 ∷ 9 ∷ []
+  -- row 3 is the second row of the second bricks down, which stand S = 21 columns further right
+  pub place-70 : placeInBrick tworowed 0 3 ≡ 49
+  -- the shift leads on to the same phase, and each phase occurs once in a brick
+  pub shifted : Shifted listed 0 0
+  pub once : Once tworowed 0 0 1
+  -- the lowest number that applies: of 3 and 4, and of 1 and 5
+  pub lowest-3 : refusalOf (screenOf 4 7 5 6 5) ≡ 3
+  pub lowest-1 : placeRefusal sloped 65536 0 ≡ 1

@@ -1,18 +1,12 @@
--- Document 01, 'Screen and phase', second paragraph: the sheet, and the phase of a place.
+-- Document 01, 'Screen and phase', second paragraph: the phase of a place.
 -- Assumes nothing: these are definitions.
 use Prim.Native.Nat.{ℕ, _+_, _*_}
-use mathlib.Core.Bool.{Bool, _&&_}
-use lib.Dec.{leb}
 use Rattle.arith.specs.Remainder.{remainderOf}
 use Rattle.arith.specs.Refusal.{unless, orElse, answered}
+use Rattle.arith.specs.Sheet.{onSheet}
 use Rattle.screen.specs.declared.Screen.{Screen}
 use Rattle.screen.specs.declared.places.Place.{Place}
 use Rattle.screen.specs.Screens.{refusalOf}
-
--- "The sheet has columns x from the left and rows y from the top, each 0 to 65,535." A window of w columns and r rows
--- with its corner at (x, y) lies on it unless refusal 5 applies: "X + W or Y + R above 65,536".
-unfoldable pub onSheet : ℕ → ℕ → ℕ → ℕ → Bool
-onSheet x y w r = leb (x + w) 65536 && leb (y + r) 65536
 
 -- "The phase of (x, y) is the remainder, 0 to N − 1, of a × x − b × y − g by N."
 unfoldable pub phaseOf : ℕ → ℕ → ℕ → ℕ → ℕ → ℕ → ℕ

@@ -8,6 +8,10 @@ use Rattle.arith.specs.Gcd.{gcdOf}
 use Rattle.arith.specs.Refusal.{unless}
 use Rattle.screen.specs.declared.Screen.{Screen}
 
+-- "A screen is five whole numbers."
+abbrev pub screenOf : ℕ → ℕ → ℕ → ℕ → ℕ → Screen
+screenOf a b n k g = record { a = a; b = b; n = n; k = k; g = g }
+
 -- "The slope is a/b with 1 ≤ a < b ≤ 64, a and b without a common divisor above 1."
 unfoldable pub slopeAdmitted : ℕ → ℕ → Bool
 slopeAdmitted a b = leb 1 a && ltb a b && leb b 64 && eqb (gcdOf a b) 1

@@ -14,6 +14,7 @@ use native.Mathlib.Omega.{arith}
 use lib.Dec.{eqb, ltb}
 use borrow.Author.Tests.{ne-eqb}
 use Rattle.arith.specs.Sum.{sumBelow, indicator}
+use Rattle.arith.proofs.TallyLaws.{indicator-le}
 use Rattle.separation.specs.declared.Separation.the-variants.{Kueppers}
 use Rattle.separation.specs.declared.Inks.{Inks}
 use Rattle.separation.specs.Weights.{full, weight, scaleOf}
@@ -79,32 +80,27 @@ no-others : (inks : Inks) (single double : ℕ) → EachOfSix (Other inks single
 no-others inks s d p j h n6 nd ns n7 = rw (ne-eqb j d nd, ne-eqb j s ns) at (below-six (Other inks s d) p j (omega arith))
 
 -- THE SENTENCE of document 01, for each of the six orders
-pub kueppers-by-order : KueppersWords
+pub kueppers-words : KueppersWords
 unfolding weight
-kueppers-by-order inks v _ _ _ _ _ c-m-y p q = search (arith, no-others inks 2 5 (omega arith))
-kueppers-by-order inks v _ _ _ _ _ c-y-m p q = search (arith, no-others inks 1 5 (omega arith))
-kueppers-by-order inks v _ _ _ _ _ m-c-y p q = search (arith, no-others inks 2 4 (omega arith))
-kueppers-by-order inks v _ _ _ _ _ m-y-c p q = search (arith, no-others inks 0 4 (omega arith))
-kueppers-by-order inks v _ _ _ _ _ y-c-m p q = search (arith, no-others inks 1 3 (omega arith))
-kueppers-by-order inks v _ _ _ _ _ y-m-c p q = search (arith, no-others inks 0 3 (omega arith))
+kueppers-words inks v _ _ _ _ _ c-m-y p q = search (arith, no-others inks 2 5 (omega arith))
+kueppers-words inks v _ _ _ _ _ c-y-m p q = search (arith, no-others inks 1 5 (omega arith))
+kueppers-words inks v _ _ _ _ _ m-c-y p q = search (arith, no-others inks 2 4 (omega arith))
+kueppers-words inks v _ _ _ _ _ m-y-c p q = search (arith, no-others inks 0 4 (omega arith))
+kueppers-words inks v _ _ _ _ _ y-c-m p q = search (arith, no-others inks 1 3 (omega arith))
+kueppers-words inks v _ _ _ _ _ y-m-c p q = search (arith, no-others inks 0 3 (omega arith))
 
 -- ---- at most four
 
--- an indicator is 0 or 1
-indicator-small : (test : Bool) → indicator test ≤ 1
-indicator-small true = omega arith
-indicator-small false = omega arith
-
 -- of two numbers, one at most a - b and the other at most b - a, only one is above 0
 apart : (u v a b : ℕ) → (u ≤ a - b) × (v ≤ b - a) → indicator (ltb 0 u) + indicator (ltb 0 v) ≤ 1
-apart zero v a b h = omega (arith, indicator-small (ltb 0 v))
-apart (suc u) zero a b h = omega (arith, indicator-small (ltb 0 (suc u)))
+apart zero v a b h = omega (arith, indicator-le (ltb 0 v))
+apart (suc u) zero a b h = omega (arith, indicator-le (ltb 0 (suc u)))
 apart (suc u) (suc v) a b h = absurd (omega arith)
 
 -- AT MOST FOUR are above 0: one of a single ink, one of two inks, black and white
-pub kueppers-at-most-four : KueppersFour
+pub kueppers-four : KueppersFour
 unfolding sumBelow weight
-kueppers-at-most-four inks v =
+kueppers-four inks v =
     omega (
       arith,
       apart (w inks 0) (w inks 1) (inks .c) (inks .m) (omega arith),
@@ -113,6 +109,6 @@ kueppers-at-most-four inks v =
       apart (w inks 3) (w inks 4) (inks .m) (inks .y) (omega arith),
       apart (w inks 3) (w inks 5) (inks .c) (inks .y) (omega arith),
       apart (w inks 4) (w inks 5) (inks .c) (inks .m) (omega arith),
-      indicator-small (ltb 0 (w inks 6)),
-      indicator-small (ltb 0 (w inks 7)),
+      indicator-le (ltb 0 (w inks 6)),
+      indicator-le (ltb 0 (w inks 7)),
     )

@@ -1,3 +1,4 @@
 mod DemichelLaws
 mod KueppersLaws
 pub mod Published
+pub mod AllMarks

@@ -3,9 +3,10 @@
 use native.Mathlib.Omega.{arith}
 use Rattle.separation.specs.declared.Separation.the-variants.{Demichel, Kueppers}
 use Rattle.separation.specs.Weights.{scaleOf}
-use Rattle.separation.specs.Laws.{WeightsAddUp, ScaleOdd, KueppersWords, KueppersFour}
+use Rattle.separation.specs.Laws.{WeightsAddUp, ScaleOdd}
 use Rattle.separation.proofs.DemichelLaws.{demichel-adds-up}
-use Rattle.separation.proofs.KueppersLaws.{kueppers-adds-up, kueppers-by-order, kueppers-at-most-four}
+use Rattle.separation.proofs.KueppersLaws.{kueppers-adds-up}
+pub use Rattle.separation.proofs.KueppersLaws.{kueppers-words, kueppers-four}
 
 -- THE EIGHT WEIGHTS ADD UP to D
 pub weights-add-up : WeightsAddUp
@@ -17,11 +18,3 @@ pub scale-odd : ScaleOdd
 unfolding scaleOf
 scale-odd Demichel = omega arith
 scale-odd Kueppers = omega arith
-
--- KUEPPERS BY THE ORDER of the values
-pub kueppers-words : KueppersWords
-kueppers-words = kueppers-by-order
-
--- AT MOST FOUR COLORANTS get anything
-pub kueppers-four : KueppersFour
-kueppers-four = kueppers-at-most-four

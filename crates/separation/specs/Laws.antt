@@ -22,7 +22,7 @@ pub record InkValues (inks : Inks) : Type 0 where
 abbrev pub WeightsAddUp : Type 0
 WeightsAddUp = (sep : Separation) (inks : Inks) → InkValues inks → sumBelow 8 (weight sep inks) ≡ scaleOf sep
 
--- "Halves can't occur, D being odd."
+-- "D being odd"
 abbrev pub ScaleOdd : Type 0
 ScaleOdd = (sep : Separation) → (0 < scaleOf sep) × (scaleOf sep % 2 ≡ 1)
 

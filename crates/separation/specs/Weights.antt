@@ -13,6 +13,10 @@ use Rattle.separation.specs.declared.Inks.{Inks}
 abbrev pub full : ℕ
 full = 255
 
+-- three ink values as one
+abbrev pub inksOf : ℕ → ℕ → ℕ → Inks
+inksOf c m y = record { c = c; m = m; y = y }
+
 -- "Colorants are numbered 0 cyan, 1 magenta, 2 yellow, 3 blue (c, m), 4 green (c, y), 5 red (m, y), 6 black (c, m, y),
 -- 7 white (no ink; silver on our press). A small fixed table says which of the three inks each colorant holds."
 abbrev pub table : List (List Bool)

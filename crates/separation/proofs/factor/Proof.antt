@@ -11,7 +11,7 @@ returns : tie.Need-returns
 returns c = search needs
 
 returns-2 : tie.Need-returns-2
-returns-2 c = (rw (c .if1 .left), omega arith)
+returns-2 c = (rw (c .if1 .left) (omega arith), omega arith)
 
 pub factor-spec : {M : Type 1} → statement M
 factor-spec = tie.close (tie.spec sub-result returns returns-2)

@@ -42,7 +42,8 @@ returns : tie.Need-returns Inv-loop μ-loop
 returns c =
     let asked = c .before .before in
     let turn = asked .before .before in
-    patches-bad (turn .before .loop .inv) (turn .loop-test .taken) (subst (PatchSays _) (c .enum-told .given .1) (asked .patch-line .ensures))
+    let bad = patches-bad (turn .before .loop .inv) (omega (arith, turn .loop-test .taken)) (subst (PatchSays _) (c .enum-told .given .1) (asked .patch-line .ensures)) in
+    record { there = bad .there; number = omega (arith, bad .number); why = bad .why }
 
 add-at : tie.Need-add-at Inv-loop μ-loop
 add-at c =

@@ -61,7 +61,7 @@ returns-3 c =
     let place = found .before .place-of .ensures in
     let head = headed .before .begins .ensures .0 (not-false _ (headed .if2 .left)) in
     let line = take (found .before .place-of .result) (found .before .before .before .args .text .now) in
-    screen-unread _ _ (place .0) (place .1) (found .if1 .left) head (rest-failed 2 5 99999 line _ _ (read .ensures .0) (read .ensures .1) (c .if3 .taken))
+    screen-unread _ _ (place .0) (place .1) (found .if1 .left) head (rest-failed 2 line (read .ensures) (c .if3 .taken))
 
 array-read-t21 : tie.Need-array-read-t21
 array-read-t21 c = search needs
@@ -89,7 +89,7 @@ returns-4 c =
     let place = found .before .place-of .ensures in
     let head = headed .before .begins .ensures .0 (not-false _ (headed .if2 .left)) in
     let line = take (found .before .place-of .result) (found .before .before .before .args .text .now) in
-    let numbers = rest-passed 2 5 99999 line _ _ (read .ensures .0) (read .ensures .1) (c .before .before .if3 .left) in
+    let numbers = rest-passed 2 line (read .ensures) (c .before .before .if3 .left) in
     let refused = c .before .refusal .ensures in
     (screen-judged _ _ (place .0) (place .1) (found .if1 .left) head _ (numbers .0) (numbers .1) ∙ sym refused, omega (arith, c .if4 .taken))
 
@@ -104,7 +104,7 @@ returns-5 c =
     let place = found .before .place-of .ensures in
     let head = headed .before .begins .ensures .0 (not-false _ (headed .if2 .left)) in
     let line = take (found .before .place-of .result) (found .before .before .before .args .text .now) in
-    let numbers = rest-passed 2 5 99999 line _ _ (read .ensures .0) (read .ensures .1) (c .before .before .if3 .left) in
+    let numbers = rest-passed 2 line (read .ensures) (c .before .before .if3 .left) in
     let admitted = sym (c .before .refusal .ensures) ∙ c .if4 .left in (
       screen-judged _ _ (place .0) (place .1) (found .if1 .left) head _ (numbers .0) (numbers .1) ∙ admitted,
       screen-is _ _ (place .0) (place .1) (found .if1 .left) head _ (numbers .0) (numbers .1),

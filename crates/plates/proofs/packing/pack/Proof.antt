@@ -1,11 +1,12 @@
 -- `plates::packing::pack` meets its contract: each return is one law of Refusals. Assumes nothing.
 use mathlib.Core.Path.{_∙_}
-use native.Mathlib.Nat.{suc-ne-zero}
+use native.Mathlib.Nat.{suc-ne-zero, mul-le-mul}
 use native.Mathlib.Omega.{arith}
 use borrow.Author.Needs.{needs}
 use Rattle.arith.proofs.RefusalLaws.{failed, passed}
-use Rattle.plates.proofs.PlaceLaws.{cells-few, planes-few}
-use Rattle.plates.proofs.Refusals.{sheet-kept, size-5, size-lengths, size-passed, size-kept, pack-size, pack-9, pack-0}
+use Rattle.arith.proofs.SheetLaws.{corner-kept}
+use Rattle.plates.proofs.PlaceLaws.{planes-few}
+use Rattle.plates.proofs.Refusals.{size-5, size-lengths, size-passed, size-kept, pack-size, pack-9, pack-0}
 use Rattle.plates.proofs.packing.pack.Statement.{statement}
 use Rattle.plates.proofs.packing.pack.Tie as tie
 
@@ -17,18 +18,18 @@ returns c = pack-size _ _ _ _ (size-5 _ _ _ _ _ _ (failed (c .before .on-sheet .
 
 mul-stated : tie.Need-mul-stated
 mul-stated c =
-    let sheet = sheet-kept _ _ (passed (c .before .on-sheet .ensures) (c .if1 .left)) in
-    omega (arith, cells-few _ _ (sheet .0) (sheet .1))
+    let sheet = corner-kept _ _ (passed (c .before .on-sheet .ensures) (c .if1 .left)) in
+    omega (arith, mul-le-mul (sheet .0) (sheet .1))
 
 mul-due : tie.Need-mul-due
 mul-due c = search needs
 
 row-bytes-requires : tie.Need-row-bytes-requires
-row-bytes-requires c κs = sheet-kept _ _ (passed (c .before .on-sheet .ensures) (c .if1 .left)) .0
+row-bytes-requires c κs = corner-kept _ _ (passed (c .before .on-sheet .ensures) (c .if1 .left)) .0
 
 mul-due-2 : tie.Need-mul-due-2
 mul-due-2 c =
-    let sheet = sheet-kept _ _ (passed (c .before .before .on-sheet .ensures) (c .before .if1 .left)) in
+    let sheet = corner-kept _ _ (passed (c .before .before .on-sheet .ensures) (c .before .if1 .left)) in
     omega (arith, planes-few _ _ (sheet .0) (sheet .1) (c .row-bytes .result) (c .row-bytes .ensures))
 
 lengths-refusal-requires : tie.Need-lengths-refusal-requires
@@ -57,7 +58,7 @@ write-planes-requires c κs =
     let bytes = long .before .before in
     let sheet = passed (bytes .before .before .on-sheet .ensures) (bytes .before .if1 .left) in
     let size = size-kept _ _ _ _ _ _ (size-passed _ _ _ _ _ _ sheet (rw (bytes .row-bytes .ensures) at (long .before .lengths-refusal .ensures)) (long .if2 .left)) in
-    let limits = sheet-kept _ _ sheet in
+    let limits = corner-kept _ _ sheet in
     (limits .0, limits .1, size .1, size .2)
 
 same-length : tie.Need-same-length

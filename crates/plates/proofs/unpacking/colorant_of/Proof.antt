@@ -5,7 +5,7 @@ use mathlib.Core.Path.{sym, _∙_}
 use native.Mathlib.Omega.{arith}
 use borrow.Author.Needs.{needs}
 use borrow.Author.Tests.{eq-eqb, ne-eqb}
-use Rattle.plates.proofs.PlaceLaws.{plane-row, row-place}
+use lib.Arith.{digits-lt}
 use Rattle.arith.proofs.FirstLaws.{Searching, searching-start, searching-on, searching-found, searching-end}
 use Rattle.plates.specs.Planes.{colorantOf}
 use Rattle.plates.proofs.PixelLoops.{has}
@@ -22,15 +22,15 @@ loop-holds : tie.Need-loop-holds Inv-loop μ-loop
 loop-holds c = searching-start _ _
 
 mul-bit-at : tie.Need-mul-bit-at Inv-loop μ-loop
-mul-bit-at c = omega (arith, plane-row (c .before .before .before .args .rows) (c .before .loop .p) (c .before .before .before .args .y) (c .loop-test .taken) (c .before .before .before .pre .2))
+mul-bit-at c = omega (arith, digits-lt (c .loop-test .taken) (c .before .before .before .pre .2))
 
 add-bit-at : tie.Need-add-bit-at Inv-loop μ-loop
-add-bit-at c = omega (arith, plane-row (c .before .before .before .args .rows) (c .before .loop .p) (c .before .before .before .args .y) (c .loop-test .taken) (c .before .before .before .pre .2))
+add-bit-at c = omega (arith, digits-lt (c .loop-test .taken) (c .before .before .before .pre .2))
 
 bit-at-requires : tie.Need-bit-at-requires Inv-loop μ-loop
 bit-at-requires c κs =
     let start = c .before .before .before in
-    rw (start .pre .3) (row-place _ _ _ _ (plane-row _ _ _ (c .loop-test .taken) (start .pre .2)) (start .pre .0))
+    rw (start .pre .3) (digits-lt (digits-lt (c .loop-test .taken) (start .pre .2)) (start .pre .0))
 
 cast-result : tie.Need-cast-result Inv-loop μ-loop
 cast-result c = search needs

@@ -3,7 +3,7 @@
 use Prim.Native.Nat.{_-_}
 use native.Mathlib.Omega.{arith}
 use borrow.Author.Needs.{needs}
-use Rattle.plates.proofs.PlaceLaws.{plane-row, row-place}
+use lib.Arith.{digits-lt}
 use Rattle.plates.proofs.PixelLoops.{CountAt, count-start, count-step, count-end}
 use Rattle.plates.proofs.unpacking.planes_with.Statement.{statement}
 use Rattle.plates.proofs.unpacking.planes_with.Tie as tie
@@ -18,15 +18,15 @@ loop-holds : tie.Need-loop-holds Inv-loop μ-loop
 loop-holds c = count-start _ _ _ _ _
 
 mul-bit-at : tie.Need-mul-bit-at Inv-loop μ-loop
-mul-bit-at c = omega (arith, plane-row (c .before .before .before .args .rows) (c .before .loop .p) (c .before .before .before .args .y) (c .loop-test .taken) (c .before .before .before .pre .2))
+mul-bit-at c = omega (arith, digits-lt (c .loop-test .taken) (c .before .before .before .pre .2))
 
 add-bit-at : tie.Need-add-bit-at Inv-loop μ-loop
-add-bit-at c = omega (arith, plane-row (c .before .before .before .args .rows) (c .before .loop .p) (c .before .before .before .args .y) (c .loop-test .taken) (c .before .before .before .pre .2))
+add-bit-at c = omega (arith, digits-lt (c .loop-test .taken) (c .before .before .before .pre .2))
 
 bit-at-requires : tie.Need-bit-at-requires Inv-loop μ-loop
 bit-at-requires c κs =
     let start = c .before .before .before in
-    rw (start .pre .3) (row-place _ _ _ _ (plane-row _ _ _ (c .loop-test .taken) (start .pre .2)) (start .pre .0))
+    rw (start .pre .3) (digits-lt (digits-lt (c .loop-test .taken) (start .pre .2)) (start .pre .0))
 
 add-count : tie.Need-add-count Inv-loop μ-loop
 add-count c = search needs

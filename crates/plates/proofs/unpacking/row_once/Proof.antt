@@ -1,11 +1,11 @@
 -- `plates::unpacking::row_once` meets its contract. The measure is how many pixels are left. Assumes nothing.
 use Prim.Native.Nat.{_-_}
 use mathlib.Core.Path.{sym, _∙_}
+use native.Mathlib.Omega.{arith}
 use lib.Dec.{eqb}
 use borrow.Author.Needs.{needs}
 use borrow.Author.Tests.{eq-eqb, ne-eqb}
 use Rattle.plates.specs.Planes.{planesWith}
-use Rattle.plates.proofs.PlaceLaws.{column-byte}
 use Rattle.arith.proofs.EveryLaws.{Passed, passed-start, passed-step, passed-fails, passed-end}
 use Rattle.plates.proofs.unpacking.row_once.Statement.{statement}
 use Rattle.plates.proofs.unpacking.row_once.Tie as tie
@@ -22,7 +22,7 @@ loop-holds c = passed-start _ _
 planes-with-requires : tie.Need-planes-with-requires Inv-loop μ-loop
 planes-with-requires c κs =
     let start = c .before .before .before in
-    (rw (start .pre .0) (column-byte _ _ (c .loop-test .taken)), start .pre .1, start .pre .2, start .pre .3)
+    (rw (start .pre .0) (omega (arith, c .loop-test .taken)), start .pre .1, start .pre .2, start .pre .3)
 
 returns : tie.Need-returns Inv-loop μ-loop
 returns c = passed-fails (c .before .before .before .loop .inv) (c .before .before .loop-test .taken) (ne-eqb _ _ (λ e. c .if1 .taken (c .before .planes-with .ensures ∙ e)))

@@ -2,8 +2,8 @@
 use native.Mathlib.Nat.{le-trans, le-of-lt, le-add-left, mod-lt}
 use native.Mathlib.Omega.{arith}
 use borrow.Author.Needs.{needs}
-use Rattle.render.proofs.BrickRow.{columns-limit, behind-fits, line-fits, line-length, line-low, first-below, line-reads}
-use Rattle.render.proofs.RowLoop.{written-same}
+use Rattle.render.proofs.BrickRow.{columns-limit, behind-fits, line-fits, line-length, line-low, line-reads}
+use Rattle.render.proofs.RowLoop.{table-cells, cells-same}
 use Rattle.render.proofs.bricks.brick_row.Statement.{statement}
 use Rattle.render.proofs.bricks.brick_row.Tie as tie
 
@@ -13,7 +13,7 @@ div-behind c = search needs
 mul-behind : tie.Need-mul-behind
 mul-behind c =
     let start = c .before .before .before .before in
-    omega (arith, behind-fits (start .pre .1 .0) (start .pre .0 .few) (start .args .y) (start .pre .1 .1))
+    omega (arith, behind-fits (start .pre .0 .1) (table-cells (start .pre .0 .0 .1) .1) (start .args .y) (start .pre .0 .2))
 
 rem-behind : tie.Need-rem-behind
 rem-behind c = search needs
@@ -24,12 +24,12 @@ rem-first c = search needs
 add-first : tie.Need-add-first
 add-first c =
     let start = c .before .before .before .before in
-    omega (arith, mod-lt (start .args .x) (start .pre .1 .0 .wide), columns-limit (start .pre .1 .0) (start .pre .0 .few))
+    omega (arith, mod-lt (start .args .x) (start .pre .0 .1 .wide), columns-limit (start .pre .0 .1) (table-cells (start .pre .0 .0 .1) .1))
 
 sub-first : tie.Need-sub-first
 sub-first c =
     let start = c .before .before .before .before in
-    le-trans (le-of-lt (mod-lt _ (start .pre .1 .0 .wide))) (le-add-left _ _)
+    le-trans (le-of-lt (mod-lt _ (start .pre .0 .1 .wide))) (le-add-left _ _)
 
 rem-first-2 : tie.Need-rem-first-2
 rem-first-2 c = search needs
@@ -40,12 +40,12 @@ rem-from c = search needs
 mul-from : tie.Need-mul-from
 mul-from c =
     let start = c .before .before .before .before in
-    omega (arith, line-fits (start .pre .1 .0) (start .pre .0 .few) (start .args .y), start .pre .0 .few)
+    omega (arith, line-fits (start .pre .0 .1) (table-cells (start .pre .0 .0 .1) .1) (start .args .y), table-cells (start .pre .0 .0 .1) .1)
 
 cast-from : tie.Need-cast-from
 cast-from c =
     let start = c .before .before .before .before in
-    omega (arith, line-fits (start .pre .1 .0) (start .pre .0 .few) (start .args .y), start .pre .0 .few)
+    omega (arith, line-fits (start .pre .0 .1) (table-cells (start .pre .0 .0 .1) .1) (start .args .y), table-cells (start .pre .0 .0 .1) .1)
 
 cast-to : tie.Need-cast-to
 cast-to c = search needs
@@ -53,12 +53,12 @@ cast-to c = search needs
 add-to : tie.Need-add-to
 add-to c =
     let start = c .before .before .before .before in
-    omega (arith, line-fits (start .pre .1 .0) (start .pre .0 .few) (start .args .y), start .pre .0 .few)
+    omega (arith, line-fits (start .pre .0 .1) (table-cells (start .pre .0 .0 .1) .1) (start .args .y), table-cells (start .pre .0 .0 .1) .1)
 
 mul-line : tie.Need-mul-line
 mul-line c =
     let start = c .before .before .before .before in
-    omega (arith, line-fits (start .pre .1 .0) (start .pre .0 .few) (start .args .y), start .pre .0 .few)
+    omega (arith, line-fits (start .pre .0 .1) (table-cells (start .pre .0 .0 .1) .1) (start .args .y), table-cells (start .pre .0 .0 .1) .1)
 
 sub-line : tie.Need-sub-line
 sub-line c = search needs
@@ -69,15 +69,15 @@ part-line-start c = search needs
 part-line-end : tie.Need-part-line-end
 part-line-end c =
     let start = c .before .before .before .before in
-    omega (arith, line-fits (start .pre .1 .0) (start .pre .0 .few) (start .args .y), start .pre .1 .0 .long)
+    omega (arith, line-fits (start .pre .0 .1) (table-cells (start .pre .0 .0 .1) .1) (start .args .y), start .pre .0 .1 .long)
 
 line-requires : tie.Need-line-requires
 line-requires c κs =
     let start = c .before .before .before .before .before .before .before in
-    let b = start .pre .1 .0 in
-    let few = start .pre .0 .few in
+    let b = start .pre .0 .1 in
+    let few = table-cells (start .pre .0 .0 .1) .1 in
     let long = line-length b few (start .args .y) in
-    (start .pre .0, (rw long (first-below b few (start .args .x) (start .args .y)), rw long (columns-limit b few), λ i l. line-low b few (start .args .y) i (rw long at l)))
+    ((start .pre .0 .0, rw long (mod-lt _ (b .wide)), rw long (columns-limit b few), λ i l. line-low b few (start .args .y) i (rw long at l)), start .pre .1)
 
 same-length : tie.Need-same-length
 same-length c = search needs
@@ -86,9 +86,9 @@ returns : tie.Need-returns
 returns c =
     let call = c .before .before in
     let start = call .before .before .before .before .before .before .before .before in
-    let b = start .pre .1 .0 in
-    let few = start .pre .0 .few in
-    written-same _ _ _ _ _ _ _ _ (λ i. rw (line-length b few (start .args .y)) (line-reads b few (start .args .x) (start .args .y) i)) (call .line .ensures)
+    let b = start .pre .0 .1 in
+    let few = table-cells (start .pre .0 .0 .1) .1 in
+    (cells-same _ _ _ _ _ _ _ (λ i. rw (line-length b few (start .args .y)) (line-reads b few (start .args .x) (start .args .y) i)) (call .line .ensures .0), call .line .ensures .1)
 
 pub brick-row-spec : {M : Type 1} → statement M
 brick-row-spec =

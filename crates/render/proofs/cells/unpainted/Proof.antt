@@ -1,9 +1,9 @@
 -- `render::cells::unpainted` meets its contract. Assumes nothing.
-use mathlib.Core.Path.{ap}
+use native.Mathlib.Nat.{mul-zero}
 use native.Mathlib.Omega.{arith}
-use Prim.Native.Nat.{ℕ, _*_}
 use borrow.Author.Needs.{needs}
-use Rattle.quantiser.proofs.Published.{scale-limit}
+use Rattle.quantiser.proofs.Published.{scale-limit, rank-none}
+use Rattle.render.specs.Rows.{paintOf}
 use Rattle.render.proofs.cells.unpainted.Statement.{statement}
 use Rattle.render.proofs.cells.unpainted.Tie as tie
 
@@ -17,7 +17,8 @@ levels-requires : tie.Need-levels-requires
 levels-requires c κs = search needs
 
 returns : tie.Need-returns
-returns c = (ap (λ (d : ℕ). 2 * d) (c .before .scale .ensures), c .levels .ensures)
+unfolding paintOf
+returns c = rw (c .before .scale .ensures, c .levels .ensures, mul-zero, rank-none)
 
 pub unpainted-spec : {M : Type 1} → statement M
 unpainted-spec = tie.close (tie.spec scale-requires mul-unit levels-requires returns)

@@ -1,11 +1,11 @@
 -- `render::windows::nothing` meets its contract. Assumes nothing.
 use mathlib.Core.Path.{refl}
-use Rattle.arith.specs.Run.{upto}
+use Rattle.arith.specs.Run.{zeros}
 use Rattle.render.proofs.windows.nothing.Statement.{statement}
 use Rattle.render.proofs.windows.nothing.Tie as tie
 
 returns : tie.Need-returns
-unfolding upto
+unfolding zeros
 returns c = refl
 
 pub nothing-spec : {M : Type 1} → statement M

@@ -1,12 +1,8 @@
 -- `render::windows::render` meets its contract: refused, empty or rendered (AnswerLaws). Assumes nothing.
-use Prim.Native.Nat.{ℕ, _≤_}
-use mathlib.Core.Path.{refl, sym, ap, _∙_}
-use native.Mathlib.Omega.{arith}
-use lib.ListN.{getD}
+use mathlib.Core.Path.{refl, sym, _∙_}
 use borrow.Author.Needs.{needs}
-use Rattle.render.specs.Windows.{talliesOf}
 use Rattle.render.proofs.RefusalLaws.{window-kept}
-use Rattle.render.proofs.AnswerLaws.{answer-none, answer-empty, answer-whole, cells-length, cells-are, window-input, table-input}
+use Rattle.render.proofs.AnswerLaws.{answer-none, answer-empty, answer-whole, cells-length, cells-are, rows-lent, table-of}
 use Rattle.render.proofs.DemandLaws.{worked-keeps}
 use Rattle.render.proofs.windows.render.Statement.{statement}
 use Rattle.render.proofs.windows.render.Tie as tie
@@ -33,15 +29,11 @@ returns-2 c =
 places-requires : tie.Need-places-requires
 places-requires c κs = search needs
 
-slice-aggregate-prepare : tie.Need-slice-aggregate-prepare
-slice-aggregate-prepare c = search needs
+slice-aggregate-thresholds : tie.Need-slice-aggregate-thresholds
+slice-aggregate-thresholds c = search needs
 
-prepare-requires : tie.Need-prepare-requires
-prepare-requires c κs =
-    let room = c .before in
-    let tested = room .before .before in
-    let e = sym (tested .before .window-refusal .ensures) ∙ tested .if1 .left in
-    table-input _ _ _ _ _ e (room .before .if2 .left) (room .places .ensures)
+thresholds-requires : tie.Need-thresholds-requires
+thresholds-requires c κs = search needs
 
 slice-aggregate-worked-rows : tie.Need-slice-aggregate-worked-rows
 slice-aggregate-worked-rows c = search needs
@@ -52,9 +44,7 @@ worked-rows-requires c κs =
     let room = call .before .before in
     let tested = room .before .before in
     let e = sym (tested .before .window-refusal .ensures) ∙ tested .if1 .left in
-    let ok = window-kept _ _ _ _ e .0 in
-    let long = table-input _ _ _ _ _ e (room .before .if2 .left) (room .places .ensures) .1 in
-    (ok, window-input _ _ _ _ _ e (room .before .if2 .left) (omega (arith, long, call .prepare .ensures .size)))
+    (table-of _ _ _ (window-kept _ _ _ _ e .0) (room .places .ensures) (call .thresholds .ensures .1), rows-lent _ _ _ _ e (room .before .if2 .left))
 
 same-length : tie.Need-same-length
 same-length c = search needs
@@ -62,15 +52,12 @@ same-length c = search needs
 returns-3 : tie.Need-returns-3
 returns-3 c =
     let rows = c .before .before in
-    let call = rows .before .before .before .before in
-    let room = call .before .before in
-    let tested = room .before .before in
+    let tested = rows .before .before .before .before .before .before .before .before in
     let start = tested .before .before .before .before in
     let e = sym (tested .before .window-refusal .ensures) ∙ tested .if1 .left in
-    let kept = window-kept _ _ _ _ e in
-    let bytes : (k : ℕ) → getD (start .args .input .now) k 0 ≤ 255 = λ k. omega (arith, tested .before .before .before .shared-slice-known .given k) in
-    let cells = cells-are (start .args .s) (start .args .sep) (start .args .w) (start .args .input .now) (kept .0) bytes _ _ (call .prepare .ensures) _ (λ u v. refl) in
-    worked-keeps _ _ _ _ _ (answer-whole _ _ _ e (cells-length _ _ _ _ ∙ sym (kept .4)) (rows .worked-rows .ensures .counts ∙ ap talliesOf cells) (rows .worked-rows .ensures .cells ∙ cells))
+    let stated = window-kept _ _ _ _ e .4 in
+    let cells = cells-are _ _ (start .args .w) _ _ (λ i. refl) _ (rows .worked-rows .ensures .0) stated in
+    worked-keeps _ _ _ _ _ (answer-whole _ _ _ e (cells-length _ _ _ _ ∙ sym stated) cells (rows .worked-rows .ensures .1))
 
 pub render-spec : {M : Type 1} → statement M
 render-spec =
@@ -82,8 +69,8 @@ render-spec =
     nothing-requires-2
     returns-2
     places-requires
-    slice-aggregate-prepare
-    prepare-requires
+    slice-aggregate-thresholds
+    thresholds-requires
     slice-aggregate-worked-rows
     worked-rows-requires
     same-length

@@ -1,19 +1,15 @@
 -- `render::windows::render_brick` meets its contract: refused, empty or rendered (AnswerLaws), its phases read from a true brick
 -- (BrickRow).
 -- Assumes nothing.
-use Prim.Native.Nat.{ℕ, _+_, _≤_}
-use mathlib.Core.Path.{sym, ap, _∙_}
+use mathlib.Core.Path.{sym, _∙_}
 use native.Mathlib.Omega.{arith}
-use lib.ListN.{getD}
 use borrow.Author.Needs.{needs}
 use Rattle.arith.proofs.RefusalLaws.{failed, passed}
-use Rattle.screen.specs.Brick.{brickPlace}
 use Rattle.screen.proofs.Published.{brick-answered}
-use Rattle.render.specs.Windows.{talliesOf}
 use Rattle.render.proofs.RefusalLaws.{window-kept, due-true, brick-window, brick-undue, brick-whole}
-use Rattle.render.proofs.AnswerLaws.{answer-none, answer-empty, answer-whole, cells-length, cells-are, window-input, table-input}
+use Rattle.render.proofs.AnswerLaws.{answer-none, answer-empty, answer-whole, cells-length, cells-are, rows-lent, table-of}
 use Rattle.render.proofs.DemandLaws.{read-keeps}
-use Rattle.render.proofs.BrickRow.{brick-input, brick-reads}
+use Rattle.render.proofs.BrickRow.{brick-lent, brick-reads}
 use Rattle.render.proofs.windows.render_brick.Statement.{statement}
 use Rattle.render.proofs.windows.render_brick.Tie as tie
 
@@ -56,15 +52,11 @@ returns-3 c =
 places-requires : tie.Need-places-requires
 places-requires c κs = search needs
 
-slice-aggregate-prepare : tie.Need-slice-aggregate-prepare
-slice-aggregate-prepare c = search needs
+slice-aggregate-thresholds : tie.Need-slice-aggregate-thresholds
+slice-aggregate-thresholds c = search needs
 
-prepare-requires : tie.Need-prepare-requires
-prepare-requires c κs =
-    let room = c .before in
-    let tested = room .before .before .before .before in
-    let e = sym (tested .before .window-refusal .ensures) ∙ tested .if1 .left in
-    table-input _ _ _ _ _ e (room .before .if3 .left) (room .places .ensures)
+thresholds-requires : tie.Need-thresholds-requires
+thresholds-requires c κs = search needs
 
 brick-of-requires : tie.Need-brick-of-requires
 brick-of-requires c κs = search needs
@@ -83,8 +75,7 @@ read-rows-requires c κs =
     let e = sym (tested .before .window-refusal .ensures) ∙ tested .if1 .left in
     let ok = window-kept _ _ _ _ e .0 in
     let holds = due-true _ _ ok (passed (compared .brick-due .ensures) (due .if2 .left)) in
-    let long = table-input _ _ _ _ _ e (room .before .if3 .left) (room .places .ensures) .1 in
-    (brick-input _ ok _ holds _ (size .brick-of .ensures ∙ brick-answered _ ok), window-input _ _ _ _ _ e (room .before .if3 .left) (omega (arith, long, call .prepare .ensures .size)))
+    ((_, table-of _ _ _ ok (room .places .ensures) (call .thresholds .ensures .1)), brick-lent _ ok _ holds _ (size .brick-of .ensures ∙ brick-answered _ ok), rows-lent _ _ _ _ e (room .before .if3 .left))
 
 same-length : tie.Need-same-length
 same-length c = search needs
@@ -103,10 +94,10 @@ returns-4 c =
     let tells = passed (compared .brick-due .ensures) (due .if2 .left) in
     let kept = window-kept _ _ _ _ e in
     let holds = due-true _ _ (kept .0) tells in
-    let bytes : (k : ℕ) → getD (start .args .input .now) k 0 ≤ 255 = λ k. omega (arith, tested .before .before .before .before .shared-slice-known .given k) in
-    let reads = brick-reads (start .args .s) (kept .0) (start .args .brick .now) holds (size .brick-of .result) (size .brick-of .ensures ∙ brick-answered _ (kept .0)) in
-    let cells = cells-are (start .args .s) (start .args .sep) (start .args .w) (start .args .input .now) (kept .0) bytes _ _ (call .prepare .ensures) (λ u v. getD (start .args .brick .now) (brickPlace (size .brick-of .result .columns) (size .brick-of .result .rows) (size .brick-of .result .shift) (start .args .w .x + u) (start .args .w .y + v)) 0) (λ u v. reads (start .args .w .x + u) (start .args .w .y + v)) in
-    read-keeps _ _ _ _ _ _ (answer-whole _ _ _ (sym (brick-whole _ _ _ _ _ e tells)) (cells-length _ _ _ _ ∙ sym (kept .4)) (rows .read-rows .ensures .counts ∙ ap talliesOf cells) (rows .read-rows .ensures .cells ∙ cells))
+    let reads = brick-reads _ (kept .0) (start .args .brick .now) holds _ (size .brick-of .ensures ∙ brick-answered _ (kept .0)) in
+    let table = table-of _ _ _ (kept .0) (room .places .ensures) (call .thresholds .ensures .1) in
+    let cells = cells-are _ _ (start .args .w) _ _ (λ i. reads _ _) _ (rows .read-rows .ensures .0 _ table) (kept .4) in
+    read-keeps _ _ _ _ _ _ (answer-whole _ _ _ (sym (brick-whole _ _ _ _ _ e tells)) (cells-length _ _ _ _ ∙ sym (kept .4)) cells (rows .read-rows .ensures .1))
 
 pub render-brick-spec : {M : Type 1} → statement M
 render-brick-spec =
@@ -121,8 +112,8 @@ render-brick-spec =
     nothing-requires-3
     returns-3
     places-requires
-    slice-aggregate-prepare
-    prepare-requires
+    slice-aggregate-thresholds
+    thresholds-requires
     brick-of-requires
     slice-aggregate-read-rows
     read-rows-requires

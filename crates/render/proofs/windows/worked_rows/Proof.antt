@@ -2,7 +2,7 @@
 -- column and is carried by a. The measure is how many rows are left.
 -- Assumes nothing.
 use Prim.Native.Nat.{ℕ, _+_, _-_, _*_, _%_}
-use mathlib.Core.Path.{_≡_, sym, ap, _∙_}
+use mathlib.Core.Path.{_≡_, refl, sym, ap, _∙_}
 use native.Mathlib.Nat.{le-of-lt, mod-lt}
 use native.Mathlib.Omega.{arith}
 use borrow.Author.Needs.{needs}
@@ -10,8 +10,9 @@ use Rattle.arith.proofs.RemainderLaws.{remainder-times}
 use Rattle.screen.specs.declared.places.Place.{Place}
 use Rattle.screen.specs.Phase.{phase}
 use Rattle.screen.proofs.Published.{phase-below, steps-right, place-on-sheet}
-use Rattle.render.proofs.RowLoop.{written-same}
-use Rattle.render.proofs.WindowLoop.{WindowAt, window-start, window-length, next-fits, next-few, row-input, window-step, window-end}
+use Rattle.render.specs.Rows.{cellsBy}
+use Rattle.render.proofs.RowLoop.{table-cells}
+use Rattle.render.proofs.WindowLoop.{cellIn, next-cells, WindowAt, window-start, window-length, next-fits, next-few, out-part, row-lent, window-step, window-end}
 use Rattle.render.proofs.windows.worked_rows.Statement.{statement}
 use Rattle.render.proofs.windows.worked_rows.Tie as tie
 use Rattle.render.proofs.windows.worked_rows.Reads as reads
@@ -21,21 +22,21 @@ use Rattle.screen.proofs.phase_at.Reads as phase-at-reads
 
 abbrev Inv-loop : tie.InvT-loop
 Inv-loop s sep table x y columns rows input out₀ wide step tallies₀ from₀ j₀ out tallies from j =
-    WindowAt (s .n) sep table (λ u v. phase s (x + u) (y + v)) input columns out₀ out tallies j from
+    WindowAt (cellIn s sep input columns (λ u v. phase s (x + u) (y + v))) columns out₀ out tallies j from
 
 abbrev μ-loop : tie.MeasureT-loop
 μ-loop s sep table x y columns rows input out₀ wide step tallies₀ from₀ j₀ out tallies from j = rows - j
 
 rem-step : tie.Need-rem-step Inv-loop μ-loop
-rem-step c = c .before .before .before .before .pre .1 .some
+rem-step c = table-cells (c .before .before .before .before .pre .0) .0
 
 loop-holds : tie.Need-loop-holds Inv-loop μ-loop
-loop-holds c = window-start _ _ _ _ _ _ _
+loop-holds c = window-start _ _ _
 
 add-to : tie.Need-add-to Inv-loop μ-loop
 add-to c =
     let start = c .before .before .before .before .before .before in
-    omega (arith, next-few (c .before .loop .inv) (c .loop-test .taken) _ _ (start .pre .1))
+    omega (arith, next-few (c .before .loop .inv) (c .loop-test .taken) (start .pre .1))
 
 add-phase-at : tie.Need-add-phase-at Inv-loop μ-loop
 add-phase-at c =
@@ -48,12 +49,12 @@ phase-at-requires c κs = search needs
 mul-a : tie.Need-mul-a Inv-loop μ-loop
 mul-a c =
     let turn = c .before .before in
-    omega (arith, next-few (turn .loop .inv) (c .before .loop-test .taken) _ _ (turn .before .before .before .before .before .pre .1))
+    omega (arith, next-few (turn .loop .inv) (c .before .loop-test .taken) (turn .before .before .before .before .before .pre .1))
 
 mul-b : tie.Need-mul-b Inv-loop μ-loop
 mul-b c =
     let turn = c .before .before in
-    omega (arith, next-few (turn .loop .inv) (c .before .loop-test .taken) _ _ (turn .before .before .before .before .before .pre .1))
+    omega (arith, next-few (turn .loop .inv) (c .before .loop-test .taken) (turn .before .before .before .before .before .pre .1))
 
 sub-row : tie.Need-sub-row Inv-loop μ-loop
 sub-row c = search needs
@@ -83,13 +84,13 @@ first : (c : lts.After-phase-at (phase-at-reads.Asked, phase-at-reads.Learnt, ro
     → c .phase-at .result .phase ≡ phase (c .before .before .before .before .before .before .before .args .s) (c .before .before .before .before .before .before .before .args .x) (c .before .before .before .before .before .before .before .args .y + c .before .before .loop .j)
 first c =
     let start = c .before .before .before .before .before .before .before in
-    ap (λ (p : Place). p .phase) (c .phase-at .ensures ∙ place-on-sheet _ (start .pre .0) _ _ (omega (arith, start .pre .1 .wide, start .pre .1 .across)) (omega (arith, start .pre .1 .high)))
+    ap (λ (p : Place). p .phase) (c .phase-at .ensures ∙ place-on-sheet _ (start .pre .0 .admitted) _ _ (omega (arith, start .pre .1 .wide, start .pre .1 .across)) (omega (arith, start .pre .1 .high)))
 
 row-requires : tie.Need-row-requires Inv-loop μ-loop
 row-requires c κs =
     let turn = c .before .before .before .before .before in
     let start = turn .before .before .before .before .before in
-    (row-input (turn .loop .inv) (c .before .before .before .before .loop-test .taken) _ _ (start .pre .1), rw (first (c .before .before .before)) (phase-below _ (start .pre .0) _ _), le-of-lt (mod-lt _ (start .pre .1 .some)))
+    (((start .args .s, start .pre .0), rw (first (c .before .before .before)) (phase-below _ (start .pre .0 .admitted) _ _), le-of-lt (mod-lt _ (table-cells (start .pre .0) .0))), row-lent (turn .loop .inv) (c .before .before .before .before .loop-test .taken) (start .pre .1) _ refl)
 
 add-j : tie.Need-add-j Inv-loop μ-loop
 add-j c = search needs
@@ -103,13 +104,15 @@ loop-again c =
     let within = c .before .before .before .before .before .before .before .loop-test .taken in
     let start = turn .before .before .before .before .before in
     let s = start .args .s in
-    let carried : (i : ℕ) → (c .before .before .before .before .before .before .phase-at .result .phase + s .a % s .n * i) % s .n ≡ phase s (start .args .x + i) (start .args .y + turn .loop .j) = λ i. rw (first (c .before .before .before .before .before .before)) (remainder-times _ (s .a) (s .n) i ∙ sym (steps-right s (start .pre .0) _ _ i)) in
-    window-step (turn .loop .inv) within _ _ (start .pre .1 .cells) (written-same _ _ _ _ _ _ _ _ carried (c .before .before .row .ensures))
+    let carried : (i : ℕ) → (c .before .before .before .before .before .before .phase-at .result .phase + s .a % s .n * i) % s .n ≡ phase s (start .args .x + i) (start .args .y + turn .loop .j) = λ i. rw (first (c .before .before .before .before .before .before)) (remainder-times _ (s .a) (s .n) i ∙ sym (steps-right s (start .pre .0 .admitted) _ _ i)) in
+    let call = c .before .before .row in
+    window-step (turn .loop .inv) within (start .pre .1) _ _ (rw (out-part (turn .loop .inv) within (start .pre .1)) at (call .ensures .0 s (start .pre .0)) ∙ next-cells _ _ _ _ _ _ _ _ (turn .loop .inv .place) carried) (call .ensures .1)
 
 same-length : tie.Need-same-length Inv-loop μ-loop
 same-length c = window-length (c .before .loop .inv)
 
 returns : tie.Need-returns Inv-loop μ-loop
+unfolding cellsBy cellIn
 returns c = window-end (c .before .loop .inv) _ (c .loop-test .left) (c .before .before .before .before .before .before .pre .1 .cells)
 
 pub worked-rows-spec : {M : Type 1} → statement M

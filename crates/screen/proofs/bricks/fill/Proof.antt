@@ -11,10 +11,6 @@ use Rattle.screen.proofs.BrickLaws.{rows-pos}
 use Rattle.screen.proofs.FillLoop.{FillAt, fill-start, fill-phase, fill-column, fill-length, fill-right, fill-down, fill-end}
 use Rattle.screen.proofs.bricks.fill.Statement.{statement}
 use Rattle.screen.proofs.bricks.fill.Tie as tie
-use Rattle.screen.proofs.bricks.fill.Reads as reads
-use Rattle.screen.proofs.bricks.fill.Lts as lts
-use Rattle.arith.proofs.gcd.Reads as gcd-reads
-use Rattle.screen.proofs.bricks.carry.Reads as carry-reads
 
 abbrev Inv-loop : tie.InvT-loop
 Inv-loop brick₀ a b n g columns right down phase₀ column₀ place₀ brick phase column place = FillAt a b n g brick₀ brick phase column place

@@ -1,0 +1,53 @@
+-- The marks, shown by computing the definitions.
+-- Assumes nothing.
+use mathlib.Core.Path.{refl}
+use lib.Ieee.{le}
+use Rattle.arith.specs.Every.{every}
+use Rattle.arith.specs.First.{firstBelow}
+use Rattle.arith.specs.Gcd.{gcdOf}
+use Rattle.arith.specs.Remainder.{remainderOf}
+use Rattle.arith.specs.Run.{upto, zeros}
+use Rattle.arith.specs.Sheet.{onSheet}
+use Rattle.arith.specs.Sum.{sumBelow}
+use Rattle.arith.specs.Tally.{tally}
+use Rattle.screen.specs.Screens.{slopeAdmitted, cellsAdmitted, subscreensAdmitted, offsetAdmitted, refusalOf}
+use Rattle.screen.specs.Phase.{phaseOf, placeRefusal, placeOf}
+use Rattle.screen.specs.Brick.{shiftOf, brickOf}
+use Rattle.separation.specs.Weights.{weight, scaleOf}
+use Rattle.quantiser.specs.Running.{weightUpTo, level, running, count}
+use Rattle.quantiser.specs.Subscreens.{subscreenSize, subscreenStart, subscreenOf, distanceOf, fillUpTo, colorantAt, colorantOf}
+use Rattle.render.specs.Windows.{cellOf, windowCell, windowCells, talliesOf}
+use Rattle.render.specs.Answers.{windowRefusal, dueIn, brickRefusal, answerOf}
+use Rattle.predict.specs.Predicted.{firstBad}
+use Rattle.predict.specs.Paper.{predictRefusal, ruled}
+use Rattle.cavzemil.specs.Separations.{known, separationOf}
+use Rattle.cavzemil.specs.Windows.{cellGiven, renderingGiven, outputGiven}
+use Rattle.cavzemil.specs.Colours.{countsGiven, primariesIn, valuesRefusal, predictionGiven}
+use Rattle.cavzemil.specs.Marks.{Marks}
+
+pub marks : Marks
+unfolding le every firstBelow gcdOf remainderOf upto zeros sumBelow tally slopeAdmitted cellsAdmitted subscreensAdmitted offsetAdmitted refusalOf onSheet phaseOf placeRefusal placeOf shiftOf brickOf weight scaleOf weightUpTo level running count subscreenSize subscreenStart subscreenOf distanceOf fillUpTo colorantAt colorantOf cellOf windowCell windowCells talliesOf windowRefusal dueIn brickRefusal answerOf firstBad predictRefusal ruled known separationOf cellGiven renderingGiven outputGiven countsGiven primariesIn valuesRefusal predictionGiven
+marks =
+    record {
+      placed = refl;
+      bricked = refl;
+      sloped-brick = refl;
+      zero-demichel = refl;
+      one-kueppers = refl;
+      counted = refl;
+      celled = refl;
+      rendered = refl;
+      written = refl;
+      brick-rendered = refl;
+      brick-short = refl;
+      brick-wrong = refl;
+      brick-untouched = refl;
+      unknown-counts = refl;
+      unknown-cell = refl;
+      unknown-window = refl;
+      untouched = refl;
+      unknown-colour = refl;
+      short-colour = refl;
+      sloped-colour = refl;
+      bad-colour = refl;
+    }

@@ -1,0 +1,44 @@
+-- Small windows packed and unpacked, and refused. proofs/AllMarks.antt shows them by computing the definitions.
+-- Assumes nothing: these are statements.
+use Prim.Native.Nat.{ℕ}
+use mathlib.Core.Path.{_≡_}
+use mathlib.Core.List.{List, [], _∷_}
+use Rattle.arith.specs.Run.{upto}
+use Rattle.plates.specs.Planes.{bitAt, colorantOf}
+use Rattle.plates.specs.Refusals.{packRefusal, unpackRefusal, packed, unpacked}
+use Rattle.plates.specs.Laws.{PlaneBit, bitsSet, PlaneTally}
+
+-- two columns by two rows: cyan and magenta, then magenta and white
+abbrev pub cells : List ℕ
+cells = 0 ∷ 1 ∷ 1 ∷ 7 ∷ []
+
+-- their planes, two rows of one byte each
+abbrev pub planes : List ℕ
+planes = 128 ∷ 0 ∷ 64 ∷ 128 ∷ 0 ∷ 0 ∷ 0 ∷ 0 ∷ 0 ∷ 0 ∷ 0 ∷ 0 ∷ 0 ∷ 0 ∷ 0 ∷ 64 ∷ []
+
+-- one pixel's planes: "128, 128, then six 0", and white with the first padding bit set
+abbrev pub twice : List ℕ
+twice = 128 ∷ 128 ∷ 0 ∷ 0 ∷ 0 ∷ 0 ∷ 0 ∷ 0 ∷ []
+
+abbrev pub padded : List ℕ
+padded = 0 ∷ 0 ∷ 0 ∷ 0 ∷ 0 ∷ 0 ∷ 0 ∷ 192 ∷ []
+
+pub record Marks : Type 0 where
+  -- "X + W or Y + R above 65,536", then the lengths, input first, then 9
+  pub off-the-sheet : packRefusal 1 65537 [] 0 ≡ 5
+  pub cells-missing : packRefusal 1 1 [] 0 ≡ 6
+  pub planes-missing : packRefusal 1 1 (8 ∷ []) 0 ≡ 7
+  pub byte-above-7 : packRefusal 1 1 (8 ∷ []) 8 ≡ 9
+  pub pixel-twice : unpackRefusal 1 1 twice 1 ≡ 9
+  pub padding-set : unpackRefusal 1 1 padded 1 ≡ 9
+  -- memory as it was
+  pub byte-untouched : packed 1 1 (8 ∷ []) twice ≡ twice
+  pub twice-untouched : unpacked 1 1 twice (9 ∷ []) ≡ 9 ∷ []
+  pub padded-untouched : unpacked 1 1 padded (9 ∷ []) ≡ 9 ∷ []
+  -- memory written
+  pub planes-written : packed 2 2 cells (upto (λ i. 9) 16) ≡ planes
+  pub white-found : colorantOf 1 2 planes 1 1 ≡ 7
+  pub cells-written : unpacked 2 2 planes (9 ∷ 9 ∷ 9 ∷ 9 ∷ []) ≡ cells
+  -- what the laws say of a bit of magenta's padding and of magenta's tally
+  pub bit-law : PlaneBit → bitAt 1 planes 2 2 ≡ 0
+  pub tally-law : PlaneTally → bitsSet 2 2 planes 1 ≡ 2
