@@ -1,26 +1,28 @@
 /*
- * Cavzemil: juxtaposed line screens for eight opaque inks.
+ * Cavzemil: screens of juxtaposed lines, in eight opaque inks.
  *
- * Every call is a function of what it is handed, by the rules of document 01. Structs pass by
- * value; memory is lent as a pointer and a length in elements, and a null pointer with length 0 is an
- * empty run. Runs that are handed to one call and of which one is written must not overlap.
+ * Every call is a function of what it is handed, by the rules of docs/RULES.md, which are cited here by number.
+ * Structs pass by value; memory is lent as a pointer and a length in elements, and a null pointer with length 0
+ * is an empty run. Runs that are handed to one call and of which one is written must not overlap, and
+ * cavzemil_predict asks for IEEE 754's default mode: to nearest, subnormal numbers kept (rule 14.2).
  *
- * Refusals. Each answer has a refusal, 0 where there is none; else it is the lowest number that applies,
- * every other number in the answer is 0 (refusal 11 carries its colorant), and lent memory stays as it was.
+ * Refusals (rules 11.1 to 11.15). Each answer has a refusal, 0 where there is none; else it is the lowest number
+ * that applies, every other number in the answer is 0 (refusal 11 carries its colorant), and lent memory stays
+ * as it was.
  *
- *     1  the slope is not admitted: not 1 <= a < b <= 64, or a and b have a common divisor above 1
- *     2  the cell count n is not 1 to 4096
- *     3  the number of subscreens k is not 1 to 16, or is above n
- *     4  the offset g is not below n
- *     5  x + columns or y + rows is above 65536; a lone place is a window of 1 by 1, plates begin at 0, 0
- *     6  the input's length is not the stated one
- *     7  the output's length is not the stated one
- *     8  the brick buffer is below n places or, when rendering, one of its first n is not the phase due there
- *     9  packing: a cell above 7; unpacking: a pixel not in exactly one plane, or padding set
- *    11  a primary's value is not 0 to 200, NaN included
- *   100  the separation is neither 0 nor 1; tested before all else
+ *     1  the slope: it needs 1 <= a < b <= 64, and no common divisor of a and b above 1
+ *     2  the cell count n: it needs 1 to 4096
+ *     3  the number of subscreens k: it needs 1 to 16, and at most n
+ *     4  the offset g: it needs to be below n
+ *     5  x + columns or y + rows is above 65536; a lone place counts as a window of 1 by 1, and plates begin at 0, 0
+ *     6  the run that is read has the wrong length
+ *     7  the run that is written has the wrong length
+ *     8  the brick buffer has fewer than n places or, for cavzemil_render_brick, is not the screen's own brick
+ *     9  packing: a cell is above 7; unpacking: a pixel is set in no plane or in several, or padding is set
+ *    11  a primary's value is a NaN or beyond 0 to 200
+ *   100  the separation is neither 0 nor 1; tested before all else (rule 14.3)
  *
- * (10 belongs to the program counts alone.) Every call with a screen tests 1 to 4.
+ * (10 belongs to the program counts alone.) A call that takes a screen begins with 1 to 4.
  */
 #ifndef CAVZEMIL_H
 #define CAVZEMIL_H
@@ -32,10 +34,10 @@
 extern "C" {
 #endif
 
-/* The separations: how ink values become shares of the eight colorants. */
+/* The separations (rules 4.3 and 4.4): how ink values become shares of the eight colorants. */
 enum { CAVZEMIL_DEMICHEL = 0, CAVZEMIL_KUEPPERS = 1 };
 
-/* The colorants, as cells hold them: one ink, two inks, all three, none. */
+/* The colorants (rule 4.2), as cells hold them: one ink, two inks, all three, none. */
 enum {
     CAVZEMIL_CYAN = 0,
     CAVZEMIL_MAGENTA = 1,
@@ -47,18 +49,17 @@ enum {
     CAVZEMIL_WHITE = 7
 };
 
-/* A screen: slope a/b (1 <= a < b <= 64, no common divisor above 1), n cells (1 to 4096), k subscreens
-   (1 to 16, at most n), offset g (below n). */
+/* A screen (rules 1.1 to 1.6): slope a/b, n cells, k subscreens, offset g. */
 typedef struct { uint32_t a, b, n, k, g; } cavzemil_screen;
 
-/* A window of the sheet of 65536 columns, from the left, and 65536 rows, from the top: its first column
-   and row, and how many of each, which may be 0. */
+/* A window (rule 7.1) of the sheet of 65536 columns, from the left, and 65536 rows, from the top: its first
+   column and row, and how many of each, which may be 0. */
 typedef struct { uint32_t x, y, columns, rows; } cavzemil_window;
 
 /* The phase of a place, 0 to n - 1. */
 typedef struct { uint32_t refusal; uint32_t phase; } cavzemil_place;
 
-/* A brick's columns L, rows H and shift S: the phase at (x + S, y + H) is that at (x, y). */
+/* A brick's columns L, rows H and shift S (rules 3.1 to 3.4): (x + S, y + H) has the phase of (x, y). */
 typedef struct { uint32_t refusal, columns, rows, shift; } cavzemil_brick;
 
 /* The counts of the eight colorants, which add up to n. */
@@ -70,53 +71,59 @@ typedef struct { uint32_t refusal; uint32_t colorant; } cavzemil_cell;
 /* How many cells were written in each colorant. */
 typedef struct { uint32_t refusal; uint64_t tallies[8]; } cavzemil_rendering;
 
-/* A predicted colour; refusal 11 carries the first colorant with a bad value. */
+/* A predicted colour; refusal 11 carries the first colorant that has a value beyond its limits. */
 typedef struct { uint32_t refusal; uint32_t colorant; double x, y, z; } cavzemil_prediction;
 
-/* The phase of column x and row y: the remainder, 0 to n - 1, of a x - b y - g by n. Refusals 1 to 5. */
+/* The number of the rules that this library follows (rule 14.1): how many of the change requests, in their
+   order, they have in them. Two houses whose numbers are the same follow the same rules. */
+uint32_t cavzemil_rules(void);
+
+/* The phase of column x and row y (rule 2.2): a x - b y - g mod n, 0 to n - 1. Refusals 1 to 5. */
 cavzemil_place cavzemil_phase_at(cavzemil_screen s, uint32_t x, uint32_t y);
 
-/* The brick's sizes; its columns times its rows are n. Refusals 1 to 4. */
+/* The brick's sizes (rule 3.5); its columns times its rows are n. Refusals 1 to 4. */
 cavzemil_brick cavzemil_brick_of(cavzemil_screen s);
 
-/* Fills the first n places of a brick buffer: place v * columns + u gets the phase of (u, v). Places from
-   n on stay as they are. Answers the refusal: 1 to 4, 8. */
+/* Fills the first n places of a brick buffer (rules 3.6 and 3.7): place v * columns + u gets the phase of
+   (u, v). Places from n on stay as they are. Answers the refusal: 1 to 4, 8. */
 uint32_t cavzemil_fill_brick(cavzemil_screen s, uint16_t *brick, size_t brick_len);
 
-/* How many of n cells each colorant gets for the ink values c, m, y, 255 being full. Refusals 100,
-   1 to 4. */
+/* How many of n cells each colorant gets for the ink values c, m, y, 255 being full (rule 5.4). Refusals
+   100, 1 to 4. */
 cavzemil_counts cavzemil_counts_of(cavzemil_screen s, uint32_t separation, uint8_t c, uint8_t m, uint8_t y);
 
-/* The colorant of column x and row y for these ink values. Refusals 100, 1 to 5. */
+/* The colorant of column x and row y for these ink values (rule 7.8). Refusals 100, 1 to 5. */
 cavzemil_cell cavzemil_cell_at(cavzemil_screen s, uint32_t separation, uint32_t x, uint32_t y,
                                uint8_t c, uint8_t m, uint8_t yellow);
 
-/* Renders a window, phases worked out: the input has 3 * columns * rows bytes, c, m, y a pixel, row by
-   row; the output gets columns * rows bytes, a colorant each. Refusals 100, 1 to 7. */
+/* Renders a window, phases worked out (rules 7.2 to 7.5): the input has 3 * columns * rows bytes, those of c,
+   m and y for each pixel, by rows; the output gets columns * rows bytes, a colorant each. Refusals 100,
+   1 to 7. */
 cavzemil_rendering cavzemil_render(cavzemil_screen s, uint32_t separation, cavzemil_window w,
                                    const uint8_t *input, size_t input_len, uint8_t *out, size_t out_len);
 
-/* Renders a window like cavzemil_render, phases read from a brick buffer that cavzemil_fill_brick filled;
-   it may be longer than n. Refusals 100, 1 to 8. */
+/* Renders a window like cavzemil_render, phases read from a brick buffer that cavzemil_fill_brick filled
+   (rule 7.6); it may be longer than n. Refusals 100, 1 to 8. */
 cavzemil_rendering cavzemil_render_brick(cavzemil_screen s, uint32_t separation, cavzemil_window w,
                                          const uint8_t *input, size_t input_len,
                                          const uint16_t *brick, size_t brick_len,
                                          uint8_t *out, size_t out_len);
 
-/* Packs columns * rows cells into eight planes, colorant 0 first, each of rows rows of columns / 8 rounded
-   up bytes; the first pixel of a byte is its mask 128, and padding bits are 0. Columns and rows are at most
-   65536. Answers the refusal: 5, 6, 7, 9. */
+/* Packs columns * rows cells into eight planes (rules 8.1 to 8.5), that of colorant 0 first, each of rows rows of
+   (columns + 7) / 8 bytes. A set bit in a plane means that this ink prints at that pixel; the first pixel of a
+   byte has the mask 128, and padding is 0. Columns and rows are at most 65536. Answers the refusal:
+   5, 6, 7, 9. */
 uint32_t cavzemil_pack(uint32_t columns, uint32_t rows, const uint8_t *cells, size_t cells_len,
                        uint8_t *planes, size_t planes_len);
 
-/* Unpacks eight planes, laid out as cavzemil_pack does, into columns * rows cells. Answers the refusal:
-   5, 6, 7, 9. */
+/* Unpacks eight planes, laid out as cavzemil_pack does, into columns * rows cells (rule 8.6). Answers the
+   refusal: 5, 6, 7, 9. */
 uint32_t cavzemil_unpack(uint32_t columns, uint32_t rows, const uint8_t *planes, size_t planes_len,
                          uint8_t *cells, size_t cells_len);
 
-/* The colour of a patch of these ink values: the mean of eight primaries, weighed by the counts. The
-   primaries are 24 values, X, Y, Z a colorant, each 0 to 200; another length is refused as 6. Refusals 100,
-   1 to 4, 6, 11. */
+/* The colour of a patch of these ink values (rules 9.1 to 9.5): the mean of eight primaries, weighed by the
+   counts. The primaries are 24 values, X, Y, Z of each colorant in turn, each 0 to 200; another length is
+   refused as 6 (rule 14.4). Refusals 100, 1 to 4, 6, 11. */
 cavzemil_prediction cavzemil_predict(cavzemil_screen s, uint32_t separation, uint8_t c, uint8_t m, uint8_t y,
                                      const double *primaries, size_t primaries_len);
 

@@ -1,4 +1,4 @@
-"""Works out what the test program must print, from the rules of document 01 and nothing else.
+"""Works out what the test program must print, from the rules and nothing else.
 
     PYTHONPATH=scripts python3 -B crates/counts_text_test/expected.py > crates/counts_text_test/stdout
 """
@@ -8,7 +8,7 @@ import re
 from rules import SEPARATIONS, counts, refusal
 from texts import TEXTS, whole
 
-# 1 to 5 digits, no leading zero except 0 itself
+# up to five digits, of which 0 alone begins with a 0
 NUMBER = re.compile("0|[1-9][0-9]{0,4}")
 
 

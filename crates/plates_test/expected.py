@@ -1,4 +1,4 @@
-"""Works out what the test program must print, from the rules of document 01 and nothing else.
+"""Works out what the test program must print, from the rules and nothing else.
 
     python3 crates/plates_test/expected.py > crates/plates_test/stdout
 """

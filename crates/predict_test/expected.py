@@ -1,4 +1,4 @@
-"""Works out what the test program must print, from the rules of document 01 and Python's own floats.
+"""Works out what the test program must print, from the rules and Python's own floats.
 
     PYTHONPATH=scripts python3 -B crates/predict_test/expected.py > crates/predict_test/stdout
 """

@@ -1,4 +1,4 @@
-"""Works out what the test program must print, from the rules of document 01 and nothing else.
+"""Works out what the test program must print, from the rules and nothing else.
 
     PYTHONPATH=scripts python3 -B crates/render_test/expected.py > crates/render_test/stdout
 """

@@ -17,7 +17,7 @@
 
 enum { N = 70, COLUMNS = 60, ROWS = 14, CELLS = COLUMNS * ROWS, PLANE = ROWS * ((COLUMNS + 7) / 8) };
 
-static const cavzemil_screen screen = {4, 7, N, 2, 0};
+static const cavzemil_screen screen = {.a = 4, .b = 7, .n = N, .k = 2, .g = 0};
 static const uint8_t tints[3][3] = {{128, 128, 0}, {51, 102, 204}, {230, 40, 90}};
 
 /* Prints a row of eight numbers after a heading. */
@@ -86,7 +86,7 @@ static void print_colours(void) {
 int main(void) {
     static uint8_t input[3 * CELLS], cells[CELLS];
     uint16_t brick[N];
-    cavzemil_window window = {0, 0, COLUMNS, ROWS};
+    cavzemil_window window = {.x = 0, .y = 0, .columns = COLUMNS, .rows = ROWS};
     cavzemil_brick sizes = cavzemil_brick_of(screen);
     cavzemil_rendering rendering;
 

@@ -2,7 +2,7 @@
 //! as they are.
 //!
 //! Nothing is tested here: a call that can't be served answers its refusal's number, and a separation that
-//! there is not answers 100.
+//! there is not answers 100 (rule 14.3).
 //!
 //! ```
 //! use cavzemil::{calls, Screen};
@@ -14,44 +14,50 @@
 
 use crate::ffi::{self, BrickSizes, Cell, Counts, Place, Prediction, Rendering, Screen, Window};
 
-/// The phase of a place.
+/// The number of the rules that the linked archive follows (rule 14.1); see [`crate::RULES`].
+pub fn rules() -> u32 {
+    // SAFETY: the call takes no memory.
+    unsafe { ffi::cavzemil_rules() }
+}
+
+/// The phase of a place (rule 2.4).
 pub fn phase_at(s: Screen, x: u32, y: u32) -> Place {
     // SAFETY: the call takes no memory.
     unsafe { ffi::cavzemil_phase_at(s, x, y) }
 }
 
-/// The brick's columns, rows and shift.
+/// The brick's columns, rows and shift (rule 3.5).
 pub fn brick_of(s: Screen) -> BrickSizes {
     // SAFETY: the call takes no memory.
     unsafe { ffi::cavzemil_brick_of(s) }
 }
 
-/// Fills the first N places of a brick buffer.
+/// Fills the first N places of a brick buffer (rule 3.7).
 pub fn fill_brick(s: Screen, brick: &mut [u16]) -> u32 {
     // SAFETY: the pointer comes with the length of its own slice.
     unsafe { ffi::cavzemil_fill_brick(s, brick.as_mut_ptr(), brick.len()) }
 }
 
-/// The counts of the eight colorants, of inks c, m, y.
+/// The counts of the eight colorants, of inks c, m, y (rule 5.5).
 pub fn counts_of(s: Screen, separation: u32, [c, m, y]: [u8; 3]) -> Counts {
     // SAFETY: the call takes no memory.
     unsafe { ffi::cavzemil_counts_of(s, separation, c, m, y) }
 }
 
-/// The colorant of a place, of inks c, m, y.
+/// The colorant of a place, of inks c, m, y (rule 7.8).
 pub fn cell_at(s: Screen, separation: u32, x: u32, y: u32, [c, m, yellow]: [u8; 3]) -> Cell {
     // SAFETY: the call takes no memory.
     unsafe { ffi::cavzemil_cell_at(s, separation, x, y, c, m, yellow) }
 }
 
-/// Renders a window, phases worked out.
+/// Renders a window, phases worked out (rule 7.5).
 pub fn render(s: Screen, separation: u32, w: Window, input: &[u8], out: &mut [u8]) -> Rendering {
     let (pixels, cells) = (input.as_ptr(), out.as_mut_ptr());
     // SAFETY: both pointers come with the lengths of their own slices.
     unsafe { ffi::cavzemil_render(s, separation, w, pixels, input.len(), cells, out.len()) }
 }
 
-/// Renders a window, phases read from a brick buffer.
+/// Renders a window, phases read from a brick buffer (rule 7.6).
 pub fn render_brick(
     s: Screen,
     separation: u32,
@@ -76,7 +82,7 @@ pub fn render_brick(
     }
 }
 
-/// Packs cells into eight planes.
+/// Packs cells into eight planes (rule 8.5).
 pub fn pack(columns: u32, rows: u32, cells: &[u8], planes: &mut [u8]) -> u32 {
     // SAFETY: both pointers come with the lengths of their own slices.
     unsafe {
@@ -84,7 +90,7 @@ pub fn pack(columns: u32, rows: u32, cells: &[u8], planes: &mut [u8]) -> u32 {
     }
 }
 
-/// Unpacks eight planes into cells.
+/// Unpacks eight planes into cells (rule 8.6).
 pub fn unpack(columns: u32, rows: u32, planes: &[u8], cells: &mut [u8]) -> u32 {
     // SAFETY: both pointers come with the lengths of their own slices.
     unsafe {
@@ -92,7 +98,8 @@ pub fn unpack(columns: u32, rows: u32, planes: &[u8], cells: &mut [u8]) -> u32 {
     }
 }
 
-/// The predicted colour of inks c, m, y, from X, Y, Z a colorant; other than 24 values are refused.
+/// The predicted colour of inks c, m, y (rule 9.1), from X, Y, Z a colorant; other than 24 values are
+/// refused as 6 (rule 14.4).
 pub fn predict(s: Screen, separation: u32, [c, m, y]: [u8; 3], primaries: &[f64]) -> Prediction {
     // SAFETY: the pointer comes with the length of its own slice.
     unsafe { ffi::cavzemil_predict(s, separation, c, m, y, primaries.as_ptr(), primaries.len()) }

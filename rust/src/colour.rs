@@ -2,7 +2,7 @@
 
 use std::fmt;
 
-/// Ink values; 255 is full.
+/// Ink values; 255 is full (rule 4.1).
 #[derive(Clone, Copy, Debug, PartialEq, Eq, Hash)]
 pub struct Inks {
     /// Cyan.
@@ -23,14 +23,14 @@ impl Inks {
 /// How ink values become the shares of the eight colorants.
 #[derive(Clone, Copy, Debug, PartialEq, Eq, Hash)]
 pub enum Separation {
-    /// Demichel's equations, of inks laid independently.
+    /// Demichel's equations, of inks laid independently (rule 4.3).
     Demichel,
-    /// Kueppers's dot-on-dot separation, of at most four colorants a patch.
+    /// Kueppers's dot-on-dot separation, of at most four colorants a patch (rule 4.4).
     Kueppers,
 }
 
 impl Separation {
-    /// The number that stands for it in the C interface.
+    /// The number that stands for it in the C interface (rule 14.3).
     pub fn number(self) -> u32 {
         match self {
             Separation::Demichel => 0,
@@ -39,7 +39,7 @@ impl Separation {
     }
 }
 
-/// A colorant, which a rendered cell holds by its number.
+/// A colorant, which a rendered cell holds by its number (rule 4.2).
 ///
 /// ```
 /// use cavzemil::Colorant;
@@ -108,7 +108,7 @@ impl fmt::Display for Colorant {
     }
 }
 
-/// A colour: X, Y, Z, each 0 to 200 where it is a primary's.
+/// A colour: X, Y, Z, each 0 to 200 where it is a primary's (rule 9.2).
 #[derive(Clone, Copy, Debug, PartialEq)]
 pub struct Xyz {
     /// X.

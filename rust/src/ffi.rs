@@ -1,12 +1,13 @@
-//! The C interface, as `include/cavzemil.h` declares it.
+//! The C interface, as `include/cavzemil.h` declares it (rules 14.1 to 14.4).
 //!
-//! Structs pass by value, and a slice is a pointer and then a length. Refusal 0 means 'not refused'; a
+//! Structs pass by value, and a slice as its pointer and its length. Refusal 0 means 'not refused'; a
 //! separation is 0 for Demichel and 1 for Kueppers, and any other number is refused as 100, before all
 //! else. Callers in Rust are better served by the safe interface at the crate's root, or by [`crate::calls`]
 //! where they want these numbers.
 
-/// A screen: the slope a/b with 1 ≤ a < b ≤ 64 and no common divisor above 1, the cell count N from 1 to
-/// 4,096, the number of subscreens K from 1 to 16 and at most N, and the offset g below N.
+/// A screen: the slope a/b, where 1 ≤ a < b ≤ 64 and no number above 1 divides both, the cell count N from
+/// 1 to 4,096, the number of subscreens K from 1 to 16 and never above N, and the offset g below N
+/// (rules 1.1 to 1.6).
 #[repr(C)]
 #[derive(Clone, Copy, Debug, PartialEq, Eq, Hash)]
 pub struct Screen {
@@ -23,7 +24,7 @@ pub struct Screen {
 }
 
 /// A window of the sheet: its corner, and its columns and rows, which may be 0. The sheet has 65,536
-/// columns, from the left, and as many rows, from the top.
+/// columns, from the left, and as many rows, from the top (rules 2.1 and 7.1).
 #[repr(C)]
 #[derive(Clone, Copy, Debug, PartialEq, Eq, Hash)]
 pub struct Window {
@@ -91,6 +92,9 @@ pub struct Prediction {
 }
 
 extern "C" {
+    /// The number of the rules that the archive follows.
+    pub fn cavzemil_rules() -> u32;
+
     /// The phase of a place.
     pub fn cavzemil_phase_at(s: Screen, x: u32, y: u32) -> Place;
 

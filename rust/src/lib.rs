@@ -1,8 +1,8 @@
-//! Juxtaposed line screens for eight opaque inks.
+//! Line screens for a press that lays eight opaque inks side by side.
 //!
-//! Cavzemil screens pictures for a press that lays eight opaque inks side by side. This crate is a safe
-//! interface over the C functions of the compiled library, `libcavzemil.a`; its rules and the numbers of
-//! its refusals are those of the rules that the repository proves it to follow (document 01).
+//! This crate is a safe interface over the C functions of Cavzemil's compiled library, `libcavzemil.a`. What
+//! each call answers is fixed by the rules of the repository's `docs/RULES.md`, which the library is proved
+//! to follow; they are cited here by number, as `rule 3.2`.
 //!
 //! A [`Screen`] is five numbers. It knows the phase of every place of the sheet, tiles the sheet with a
 //! [`Brick`], and renders ink values to cells, one colorant number a byte:
@@ -21,9 +21,9 @@
 //! # }
 //! ```
 //!
-//! [`pack`] turns cells into eight plates of one bit a cell, and [`Screen::predict`] says what colour a
-//! patch will have. A call that can't be served answers a [`Refusal`], and then lent memory stays as it
-//! was.
+//! [`pack`] turns cells into plates, eight planes of one bit a cell: a set bit in a colorant's plane means
+//! that this ink prints at that pixel (rule 8.2). [`Screen::predict`] says what colour a patch will have. A
+//! call that can't be served answers a [`Refusal`], and then lent memory stays as it was (rule 11.3).
 
 pub mod calls;
 mod colour;
@@ -37,3 +37,14 @@ pub use ffi::{Screen, Window};
 pub use plates::{pack, unpack};
 pub use refusal::Refusal;
 pub use screen::Brick;
+
+/// The number of the rules that this crate is written for: how many change requests, in their order, the
+/// rules have in them. Houses whose numbers are equal follow the same rules (rule 14.1).
+///
+/// The linked archive's own number is worth asking for where `CAVZEMIL_ARCHIVE` names another archive than
+/// the repository's, which may follow other rules:
+///
+/// ```
+/// assert_eq!(cavzemil::calls::rules(), cavzemil::RULES);
+/// ```
+pub const RULES: u32 = 0;

@@ -1,12 +1,12 @@
-//! Refusals.
+//! Refusals (rules 11.1 to 11.15).
 
 use crate::colour::Colorant;
 use std::error::Error;
 use std::fmt;
 
-/// Why a call is refused; the lowest number that applies is answered.
+/// Why a call can't be served; where several refusals apply, it is that of the lowest number (rule 11.2).
 ///
-/// The paper's number 10 is the counts program's alone, and no call here can meet it.
+/// Number 10 is the counts program's alone (rule 11.14), and no call here can meet it.
 ///
 /// ```
 /// use cavzemil::{Refusal, Screen};
@@ -30,22 +30,22 @@ pub enum Refusal {
     Subscreens,
     /// 4: the offset g isn't below N.
     Offset,
-    /// 5: the window reaches beyond the sheet.
+    /// 5: a window, a lone place or a plate reaches beyond the sheet's 65,536 columns or rows.
     OffSheet,
     /// 6: the input's length isn't the stated one.
     InputLength,
     /// 7: the output's length isn't the stated one.
     OutputLength,
-    /// 8: the brick buffer is below N places or, when rendering, doesn't hold the phases due there.
+    /// 8: the brick buffer is shorter than N places, or a renderer finds a wrong phase among its first N.
     Brick,
-    /// 9: a cell above 7, a pixel that isn't in exactly one plane, or padding that is set.
+    /// 9: a cell above 7, a pixel that is set in no plane or in several, or padding that is set.
     Plates,
     /// 11: a primary's value isn't 0 to 200; this is the first such colorant.
     Primary(Colorant),
 }
 
 impl Refusal {
-    /// The paper's number.
+    /// Its number.
     pub fn number(self) -> u32 {
         match self {
             Refusal::Slope => 1,
@@ -64,7 +64,8 @@ impl Refusal {
     /// The answer that a refusal number stands in front of; refusal 11 reads its colorant.
     ///
     /// # Panics
-    /// Where the number is none that these calls can answer: then the archive is not Cavzemil's.
+    /// Where the number is none that these calls can answer: then the archive is not Cavzemil's, or follows
+    /// other rules than [`crate::RULES`].
     pub(crate) fn check(number: u32, colorant: u32) -> Result<(), Refusal> {
         Err(match number {
             0 => return Ok(()),
@@ -84,18 +85,18 @@ impl Refusal {
 }
 
 impl fmt::Display for Refusal {
-    /// Says what is wrong, with the paper's number.
+    /// Says what is wrong, with its number.
     fn fmt(&self, formatter: &mut fmt::Formatter) -> fmt::Result {
         let wrong = match self {
             Refusal::Slope => "the slope a/b needs 1 ≤ a < b ≤ 64 and no common divisor above 1",
             Refusal::CellCount => "the cell count N must be 1 to 4,096",
-            Refusal::Subscreens => "the number of subscreens K must be 1 to 16 and at most N",
+            Refusal::Subscreens => "the number of subscreens K must be 1 to 16 and not above N",
             Refusal::Offset => "the offset g must be below N",
-            Refusal::OffSheet => "the window reaches beyond the sheet's 65,536 columns or rows",
+            Refusal::OffSheet => "columns or rows beyond the sheet's 65,536 were asked for",
             Refusal::InputLength => "the input's length does not fit the columns and rows",
             Refusal::OutputLength => "the output's length does not fit the columns and rows",
             Refusal::Brick => "the brick buffer is below N places or holds a wrong phase",
-            Refusal::Plates => "a cell is above 7, a pixel is not in exactly one plane, or padding is set",
+            Refusal::Plates => "a cell is above 7, a pixel is in no plane or in several, or padding is set",
             Refusal::Primary(colorant) => {
                 return write!(formatter, "a value of the {colorant} primary is not 0 to 200 (refusal 11)");
             }

@@ -1,12 +1,12 @@
-//! What a screen can be asked. Every call tests the screen first, by refusals 1 to 4.
+//! What a screen can be asked. Every call tests the screen first, by refusals 1 to 4 (rule 11.4).
 
 use crate::calls;
 use crate::colour::{Colorant, Inks, Separation, Xyz};
 use crate::ffi::{Rendering, Screen, Window};
 use crate::refusal::Refusal;
 
-/// A brick, which tiles the sheet: the phase at (x + shift, y + rows) is that at (x, y), and a row repeats
-/// after `columns`.
+/// A brick, which tiles the sheet: (x + shift, y + rows) has the phase of (x, y), and a row repeats after
+/// `columns` (rules 3.1 to 3.4).
 #[derive(Clone, Copy, Debug, PartialEq, Eq, Hash)]
 pub struct Brick {
     /// L, the columns.
@@ -24,7 +24,7 @@ fn tallies(rendering: Rendering) -> Result<[u64; 8], Refusal> {
 }
 
 impl Screen {
-    /// The phase of column x and row y, 0 to N − 1. Refused as 5 beyond the sheet.
+    /// The phase of column x and row y, 0 to N − 1 (rule 2.2). Refused as 5 beyond the sheet.
     ///
     /// ```
     /// use cavzemil::{Refusal, Screen};
@@ -40,7 +40,7 @@ impl Screen {
         Ok(place.phase)
     }
 
-    /// The brick's sizes; `columns` × `rows` is N.
+    /// The brick's sizes; `columns` × `rows` is N (rules 3.1 to 3.3).
     ///
     /// ```
     /// use cavzemil::{Brick, Screen};
@@ -55,7 +55,7 @@ impl Screen {
     }
 
     /// Fills the first N places of a brick buffer: place v × columns + u has the phase of (u, v). Later
-    /// places stay as they are. Refused as 8 below N places.
+    /// places stay as they are (rules 3.6 and 3.7). Refused as 8 below N places.
     ///
     /// ```
     /// use cavzemil::{Refusal, Screen};
@@ -71,7 +71,7 @@ impl Screen {
         Refusal::check(calls::fill_brick(self, brick), 0)
     }
 
-    /// How many of the N cells of a brick each colorant gets; the counts add up to N.
+    /// How many of the N cells of a brick each colorant gets; the counts add up to N (rules 5.1 to 5.4).
     ///
     /// ```
     /// use cavzemil::{Inks, Screen, Separation};
@@ -86,7 +86,8 @@ impl Screen {
         Ok(counts.of)
     }
 
-    /// The colorant of column x and row y where the inks have these values. Refused as 5 beyond the sheet.
+    /// The colorant of column x and row y where the inks have these values (rules 6.3 and 7.8). Refused as 5
+    /// beyond the sheet.
     ///
     /// ```
     /// use cavzemil::{Colorant, Inks, Screen, Separation};
@@ -104,8 +105,8 @@ impl Screen {
 
     /// Renders a window, phases worked out, and answers how many cells it wrote in each colorant.
     ///
-    /// The input holds c, m, y for each pixel, row by row; the output gets a colorant number for each.
-    /// Refusals: 5 where the window reaches beyond the sheet, 6 and 7 for the lengths.
+    /// The input holds c, m, y for each pixel, row by row; the output gets a colorant number for each
+    /// (rules 7.1 to 7.5). Refusals: 5 where the window reaches beyond the sheet, 6 and 7 for the lengths.
     ///
     /// ```
     /// use cavzemil::{Refusal, Screen, Separation, Window};
@@ -132,8 +133,8 @@ impl Screen {
     }
 
     /// Renders a window like [`Screen::render`], phases read from a brick buffer that
-    /// [`Screen::fill_brick`] filled. Refused also as 8, where the buffer is below N places or one of its
-    /// first N numbers isn't the phase due there.
+    /// [`Screen::fill_brick`] filled (rules 3.9 and 7.6). Refused also as 8, where the buffer is no true
+    /// brick of the screen (rule 3.8).
     ///
     /// ```
     /// use cavzemil::{Screen, Separation, Window};
@@ -162,8 +163,8 @@ impl Screen {
         tallies(calls::render_brick(self, separation.number(), window, input, brick, out))
     }
 
-    /// The colour of a patch: the mean of the eight primaries, weighed by the counts. Refused as 11, which
-    /// carries its colorant, where a primary's value isn't 0 to 200.
+    /// The colour of a patch: the mean of the eight primaries, weighed by the counts (rules 9.1 to 9.5).
+    /// Refused as 11, which carries its colorant, where a primary's value isn't 0 to 200.
     ///
     /// ```
     /// use cavzemil::{Colorant, Inks, Refusal, Screen, Separation, Xyz};

@@ -1,6 +1,6 @@
-//! The compiled counts program compared with the plain one, on the paper's texts and on many whole and
-//! damaged texts from a fixed seed. `CAVZEMIL_COUNTS` may name the program; else it is looked for at
-//! `target/bin/counts` in the repository's root.
+//! The compiled counts program compared with the plain one (rules 10.1 to 10.8), on texts whose answers are
+//! known and on many whole and damaged texts from a fixed seed. `CAVZEMIL_COUNTS` may name the program; else
+//! it is looked for at `target/bin/counts` in the repository's root.
 
 use cavzemil_plain::counts_program;
 use cavzemil_plain::random::Random;

@@ -22,6 +22,7 @@ fn check<T>(answer: Result<T, Refusal>, expected: Refusal, number: u32) {
     assert!(found.to_string().ends_with(&format!("(refusal {number})")), "{found}");
 }
 
+/// Rules 11.5 to 11.13 and rule 11.15.
 #[test]
 fn every_refusal_has_its_number() {
     check(Screen { a: 7, ..SCREEN }.phase_at(0, 0), Refusal::Slope, 1);
@@ -41,6 +42,7 @@ fn every_refusal_has_its_number() {
     check(bad, Refusal::Primary(Colorant::Black), 11);
 }
 
+/// Rule 4.2.
 #[test]
 fn every_colorant_stands_at_its_number() {
     for (number, colorant) in Colorant::ALL.iter().enumerate() {

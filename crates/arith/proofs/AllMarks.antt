@@ -14,4 +14,5 @@ marks =
       common = λ law. law 12 18;
       remainder-98 = refl;
       words = λ law. law 0 7 105 (omega arith);
+      in-force = refl;
     }

@@ -1,4 +1,4 @@
--- The greatest common divisor by Euclid's rule.
+-- The greatest common divisor by Euclid's rule, as rules 1.2 and 3.1 use it.
 -- Assumes nothing: these are definitions.
 use Prim.Native.Nat.{ℕ, zero, suc, _%_}
 

@@ -8,5 +8,6 @@ pub mod Refusal
 pub mod Tally
 pub mod Rounding
 pub mod Sheet
+pub mod Rules
 pub mod Laws
 pub mod Marks

@@ -4,6 +4,7 @@ use Prim.Native.Nat.{_+_, _%_, _<_, _∣_}
 use mathlib.Core.Path.{_≡_}
 use Rattle.arith.specs.Gcd.{gcdOf}
 use Rattle.arith.specs.Remainder.{remainderOf}
+use Rattle.arith.specs.Rules.{rulesInForce}
 use Rattle.arith.specs.Laws.{GcdCommon, RemainderWords}
 
 pub record Marks : Type 0 where
@@ -12,3 +13,5 @@ pub record Marks : Type 0 where
   -- 0 − 7 by 105
   pub remainder-98 : remainderOf 0 7 105 ≡ 98
   pub words : RemainderWords → (98 < 105) × ((98 + 7) % 105 ≡ 0)
+  -- rule 14.1: no change request yet
+  pub in-force : rulesInForce ≡ 0

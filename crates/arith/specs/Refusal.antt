@@ -1,5 +1,4 @@
--- How refusals combine, and what they leave: "The lowest number that applies is returned, tallies and any other returned numbers
--- are 0 .., lent memory stays untouched."
+-- How refusals combine (rule 11.2: the lowest number that applies), and what a refused call says and leaves (rule 11.3).
 -- Assumes nothing: these are definitions.
 use Prim.Native.Nat.{ℕ}
 use mathlib.Core.Bool.{Bool, cond}
@@ -15,11 +14,11 @@ unless test number later = cond test later number
 abbrev pub orElse : ℕ → ℕ → ℕ
 orElse refusal later = cond (eqb refusal 0) later refusal
 
--- a returned number: as it is where the call is not refused, and 0 where it is
+-- rule 11.3, a returned number: as it is where the call is not refused, and 0 where it is
 abbrev pub answered : ℕ → ℕ → ℕ
 answered refusal number = cond (eqb refusal 0) number 0
 
--- Memory that is lent to a call, as the call leaves it: a run from the first place on and what stood after it; all as it was
--- where the call is refused.
+-- Rule 11.3, memory that is lent to a call, as the call leaves it: a run from the first place on and what stood after it; all as it
+-- was where the call is refused.
 abbrev pub written : ℕ → List ℕ → List ℕ → List ℕ
 written refusal run memory = cond (eqb refusal 0) (run ++ drop (length run) memory) memory

@@ -19,7 +19,7 @@ use Rattle.quantiser.specs.Subscreens.{subscreenSize, subscreenStart, subscreen
 use Rattle.render.specs.Windows.{cellOf, windowCell, windowCells, talliesOf}
 use Rattle.render.specs.Answers.{windowRefusal, dueIn, brickRefusal, answerOf}
 use Rattle.predict.specs.Predicted.{firstBad}
-use Rattle.predict.specs.Paper.{predictRefusal, ruled}
+use Rattle.predict.specs.Numbered.{predictRefusal, ruled}
 use Rattle.cavzemil.specs.Separations.{known, separationOf}
 use Rattle.cavzemil.specs.Windows.{cellGiven, renderingGiven, outputGiven}
 use Rattle.cavzemil.specs.Colours.{countsGiven, primariesIn, valuesRefusal, predictionGiven}

@@ -9,12 +9,12 @@ use lib.ListN.{length}
 use borrow.Author.Tests.{eq-eqb, ne-eqb}
 use Rattle.screen.specs.Screens.{refusalOf, Admitted}
 use Rattle.separation.specs.declared.Inks.{Inks}
-use Rattle.predict.specs.Paper.{Paper, ruled}
+use Rattle.predict.specs.Numbered.{Numbered, ruled}
 use Rattle.cavzemil.specs.declared.screens.Screen.{Screen}
 use Rattle.cavzemil.specs.declared.colours.Prediction.{Prediction}
 use Rattle.cavzemil.specs.Separations.{known, separationOf}
 use Rattle.cavzemil.specs.Screens.{screenOf}
-use Rattle.cavzemil.specs.Colours.{primariesIn, valuesRefusal, paperLaid, colourless, predictionGiven, predictAnswer}
+use Rattle.cavzemil.specs.Colours.{primariesIn, valuesRefusal, numberedLaid, colourless, predictionGiven, predictAnswer}
 
 module _ (s : Screen) (separation : ℕ) (inks : Inks) (values : List Float) where
   pub prediction-unknown : {v : Prediction} → known separation ≡ false → v ≡ colourless 100 0 → v ≡ predictAnswer s separation inks values
@@ -31,7 +31,7 @@ module _ (s : Screen) (separation : ℕ) (inks : Inks) (values : List Float) whe
       unfolding valuesRefusal predictionGiven
       prediction-length h q = q ∙ rw (e, eq-eqb (refusalOf (screenOf s)) 0 ok, ne-eqb (length values) 24 h)
 
-      pub prediction-ruled : {v : Prediction} {p : Paper} → length values ≡ 24 → v ≡ paperLaid p
+      pub prediction-ruled : {v : Prediction} {p : Numbered} → length values ≡ 24 → v ≡ numberedLaid p
           → p ≡ ruled (screenOf s) (separationOf separation) inks (primariesIn values) → v ≡ predictAnswer s separation inks values
       unfolding valuesRefusal predictionGiven
-      prediction-ruled l q f = q ∙ ap paperLaid f ∙ rw (e, eq-eqb (refusalOf (screenOf s)) 0 ok, eq-eqb (length values) 24 l)
+      prediction-ruled l q f = q ∙ ap numberedLaid f ∙ rw (e, eq-eqb (refusalOf (screenOf s)) 0 ok, eq-eqb (length values) 24 l)

@@ -15,7 +15,7 @@ use Rattle.separation.specs.declared.Inks.{Inks}
 use Rattle.quantiser.specs.Running.{count}
 use Rattle.predict.specs.declared.Xyz.{Xyz}
 use Rattle.predict.specs.Predicted.{plusZero}
-use Rattle.predict.specs.Paper.{Paper, ruled}
+use Rattle.predict.specs.Numbered.{Numbered, ruled}
 use Rattle.cavzemil.specs.declared.screens.Screen.{Screen}
 use Rattle.cavzemil.specs.declared.colours.Counts.{Counts}
 use Rattle.cavzemil.specs.declared.colours.Prediction.{Prediction}
@@ -24,7 +24,7 @@ use Rattle.cavzemil.specs.Screens.{screenOf}
 
 -- ---- `cavzemil_counts_of`: 100, then 1 to 4
 
--- the counts of the eight colorants, given the refusal: "any other returned numbers are 0"
+-- the counts of the eight colorants, given the refusal: 0 where there is one (rule 11.3)
 unfoldable pub countsGiven : ℕ → Screens.Screen → Separation → Inks → Counts
 countsGiven refusal s sep inks = record { refusal = refusal; of = upto (λ j. answered refusal (count s sep inks j)) 8 }
 
@@ -33,7 +33,7 @@ countsAnswer s separation inks = countsGiven (refusedFor separation (refusalOf (
 
 -- ---- `cavzemil_predict`
 
--- "24 values, X Y Z a colorant": those of colorant j. The NaNs stand for values that no call has.
+-- rule 14.4: the values of colorant j. The NaNs stand for values that no call has.
 abbrev pub primaryIn : List Float → ℕ → Xyz
 primaryIn values j = record { x = getD values (3 * j) nan; y = getD values (3 * j + 1) nan; z = getD values (3 * j + 2) nan }
 
@@ -49,13 +49,13 @@ primariesIn values =
     ∷ primaryIn values 7
     ∷ []
 
--- what is refused before the primaries are read: "another length is 6, after 1 to 4 and before 11"
+-- rule 14.4, what is refused before the primaries are read: 1 to 4, then 6 for another length
 unfoldable pub valuesRefusal : Screens.Screen → List Float → ℕ
 valuesRefusal s values = orElse (refusalOf s) (unless (eqb (length values) 24) 6 0)
 
--- an answer in the paper's numbers, field by field
-abbrev pub paperLaid : Paper → Prediction
-paperLaid p = record { refusal = p .refusal; colorant = p .colorant; x = p .x; y = p .y; z = p .z }
+-- an answer in numbers, field by field
+abbrev pub numberedLaid : Numbered → Prediction
+numberedLaid p = record { refusal = p .refusal; colorant = p .colorant; x = p .x; y = p .y; z = p .z }
 
 -- a refusal, and the colorant that it carries, with no colour
 abbrev pub colourless : ℕ → ℕ → Prediction
@@ -63,7 +63,7 @@ colourless refusal colorant = record { refusal = refusal; colorant = colorant; x
 
 -- the answer, given that refusal: no colour, or what the rules say of the primaries
 unfoldable pub predictionGiven : ℕ → Screens.Screen → Separation → Inks → List Xyz → Prediction
-predictionGiven refusal s sep inks primaries = cond (eqb refusal 0) (paperLaid (ruled s sep inks primaries)) (colourless refusal 0)
+predictionGiven refusal s sep inks primaries = cond (eqb refusal 0) (numberedLaid (ruled s sep inks primaries)) (colourless refusal 0)
 
 abbrev pub predictAnswer : Screen → ℕ → Inks → List Float → Prediction
 predictAnswer s separation inks values =

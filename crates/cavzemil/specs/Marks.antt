@@ -41,7 +41,7 @@ pub record Marks : Type 0 where
   pub placed : placeLaid (placeOf (screenOf listed) 3 2) ≡ record { refusal = 0; phase = 103 }
   pub bricked : brickLaid (brickOf (screenOf listed)) ≡ record { refusal = 0; columns = 105; rows = 1; shift = 28 }
   pub sloped-brick : brickLaid (brickOf (screenOf sloped)) ≡ record { refusal = 1; columns = 0; rows = 0; shift = 0 }
-  -- "0 for Demichel, 1 for Kueppers"
+  -- rule 14.3: the two separations
   pub zero-demichel : separationOf 0 ≡ Demichel
   pub one-kueppers : separationOf 1 ≡ Kueppers
   pub counted : countsAnswer listed 0 half ≡ record { refusal = 0; of = 26 ∷ 26 ∷ 0 ∷ 27 ∷ 0 ∷ 0 ∷ 0 ∷ 26 ∷ [] }
@@ -53,13 +53,13 @@ pub record Marks : Type 0 where
   pub brick-short : brickAnswer single 0 lone (128 ∷ 128 ∷ 0 ∷ []) [] (9 ∷ []) ≡ record { refusal = 8; tallies = zeros 8 }
   pub brick-wrong : brickAnswer single 0 lone (128 ∷ 128 ∷ 0 ∷ []) (1 ∷ []) (9 ∷ []) ≡ record { refusal = 8; tallies = zeros 8 }
   pub brick-untouched : brickOutput single 0 lone (128 ∷ 128 ∷ 0 ∷ []) (1 ∷ []) (9 ∷ []) ≡ 9 ∷ []
-  -- "any other number is refused as 100, before all else"
+  -- rule 14.3: 100, with other refusals beside it
   pub unknown-counts : countsAnswer sloped 2 half ≡ record { refusal = 100; of = zeros 8 }
   pub unknown-cell : cellAnswer sloped 2 65536 0 half ≡ record { refusal = 100; colorant = 0 }
   pub unknown-window : renderAnswer sloped 2 lone [] (9 ∷ []) ≡ record { refusal = 100; tallies = zeros 8 }
   pub untouched : renderOutput sloped 2 lone [] (9 ∷ []) ≡ 9 ∷ []
   pub unknown-colour : predictAnswer sloped 4294967295 half [] ≡ colourless 100 0
-  -- "another length is 6, after 1 to 4 and before 11"
+  -- rule 14.4: 6 alone, after 1, and before 11, which carries its colorant
   pub short-colour : predictAnswer listed 1 half [] ≡ colourless 6 0
   pub sloped-colour : predictAnswer sloped 1 half [] ≡ colourless 1 0
   pub bad-colour : predictAnswer listed 1 half magentaUnset ≡ colourless 11 1

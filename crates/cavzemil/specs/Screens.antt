@@ -1,4 +1,4 @@
--- The structs of screens: the library's, and those that C lays out, field by field, either way.
+-- Rule 14.2, the structs of screens: the library's, and those that C lays out, field by field, either way.
 -- Assumes nothing: these are definitions.
 use Rattle.screen.specs.declared.Screen as Screens
 use Rattle.screen.specs.declared.places.Place as Places

@@ -1,4 +1,4 @@
--- The number of a separation: "`separation` is 0 for Demichel, 1 for Kueppers; any other number is refused as 100, before all else."
+-- Rule 14.3: the number of a separation, and the refusal of any other.
 -- Assumes nothing: these are definitions.
 use Prim.Native.Nat.{ℕ, zero, suc}
 use mathlib.Core.Bool.{Bool, _||_}

@@ -37,8 +37,7 @@ unrendered = record { refusal = 100; tallies = zeros 8 }
 unfoldable pub cellGiven : ℕ → Screens.Screen → Separation → ℕ → ℕ → Inks → Cell
 cellGiven refusal s sep x y inks = record { refusal = refusal; colorant = answered refusal (cellOf s sep x y inks) }
 
--- the tallies of a window's cells, and the output with the cells: where the call is refused, "tallies and any other returned numbers
--- are 0 .., lent memory stays untouched"
+-- the tallies of a window's cells, and the output with the cells; zeros, and the output as it was, where the call is refused (rule 11.3)
 unfoldable pub renderingGiven : ℕ → Screens.Screen → Separation → Windows.Window → List ℕ → Rendering
 renderingGiven refusal s sep w input = renderingLaid (answerOf refusal (windowCells s sep w input))
 

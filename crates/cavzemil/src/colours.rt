@@ -2,9 +2,9 @@
 ghost use mathlib.Core.Path.{_≡_};
 ghost use Prim.Native.Nat.{_<_};
 ghost use lib.ListN.{length};
-ghost use Rattle.predict.specs.Paper.{paperOf};
+ghost use Rattle.predict.specs.Numbered.{numberedOf};
 ghost use Rattle.separation.specs.Weights.{inksOf};
-ghost use Rattle.cavzemil.specs.Colours.{countsAnswer, primaryIn, primariesIn, paperLaid, colourless, predictAnswer};
+ghost use Rattle.cavzemil.specs.Colours.{countsAnswer, primaryIn, primariesIn, numberedLaid, colourless, predictAnswer};
 use crate::screens::Screen;
 use crate::screens::screen_of;
 use crate::separations::UNKNOWN;
@@ -109,9 +109,9 @@ fn primary_in(values: &[f64], j: usize) -> Xyz
     }
 }
 
-// The library's answer in the paper's numbers.
+// The library's answer in numbers.
 fn numbered(answer: predict::Prediction) -> Prediction
-    ensures { λ r. ⌜ r ≡ paperLaid (paperOf answer) ⌝ }
+    ensures { λ r. ⌜ r ≡ numberedLaid (numberedOf answer) ⌝ }
 {
     match answer {
         predict::Prediction::Colour(x, y, z) => Prediction {

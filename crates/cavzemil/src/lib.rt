@@ -1,7 +1,8 @@
-// The C interface of the library: its calls under C names, with structs that C lays out as it does its
-// own, and slices as a pointer and then a length.
+// The C interface of the library (rules 14.1 to 14.4): its calls under C names, with structs that C lays
+// out as it does its own, and slices as a pointer and then a length.
 mod colours;
 mod planes;
+mod rules;
 mod screens;
 mod separations;
 mod windows;
@@ -12,6 +13,7 @@ pub use colours::cavzemil_counts_of;
 pub use colours::cavzemil_predict;
 pub use planes::cavzemil_pack;
 pub use planes::cavzemil_unpack;
+pub use rules::cavzemil_rules;
 pub use screens::Brick;
 pub use screens::Place;
 pub use screens::Screen;

@@ -1,5 +1,5 @@
 // The counts program: standard input, at most one byte more than is admitted, through `counts_text::run` to
-// standard output (document 01, 'Counts program').
+// standard output (rules 10.1 and 10.9).
 
 fn main() {
     let mut input = [0u8; 65537];

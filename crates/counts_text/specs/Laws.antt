@@ -21,12 +21,12 @@ NumberBack = (v : ℕ) → v ≤ greatest → (isNumber (numeral v) ≡ true) ×
 abbrev pub FieldBack : Type 0
 FieldBack = (field : List ℕ) → isNumber field ≡ true → numeral (valueOf field) ≡ field
 
--- "For each P it writes C and the eight counts.": those that `quantiser` answers
+-- rule 10.6: the counts are those that `quantiser` answers
 abbrev pub CountsWritten : Type 0
 CountsWritten =
     (s : Screen) → Admitted s → (line : List ℕ) → countsLine s line ≡ lineOf letterC (countsOf s (separationIn line) (inksIn line) .of)
 
--- "at the first bad one it writes only E, line number, refusal number"
+-- rule 10.7: the first bad line is answered by one line alone
 abbrev pub ErrorAlone : Type 0
 ErrorAlone =
     (text : List ℕ) → length text ≤ 65536 → firstBad text < length (lines text)

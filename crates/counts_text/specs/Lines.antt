@@ -1,4 +1,4 @@
--- Document 01, 'Counts program': what a line holds, and what refuses it.
+-- Rules 10.3 to 10.7: what a line holds, and what refuses it.
 -- Assumes nothing: these are definitions.
 use Prim.Native.Nat.{ℕ}
 use mathlib.Core.Bool.{Bool, cond, not, _&&_, _||_}
@@ -57,7 +57,7 @@ numbersOver most numbers memory =
     let taken = leading (length memory) most numbers in
     upto (numberAt numbers) taken ++ drop taken memory
 
--- "Line 1: the letter S, then a, b, N, K, g."
+-- rule 10.3: line 1
 unfoldable pub isScreen : List ℕ → Bool
 isScreen line = same (fieldAt line 0) (letterS ∷ []) && areNumbers 5 greatest (drop 1 (fields line))
 
@@ -67,7 +67,7 @@ screenBy number = screenOf (number 0) (number 1) (number 2) (number 3) (number 4
 unfoldable pub screenIn : List ℕ → Screen
 screenIn line = screenBy (numberAt (drop 1 (fields line)))
 
--- "P, `demichel` or `kueppers`, c, m, y", "ink values are at most 255"
+-- rules 10.4 and 10.5: a further line
 unfoldable pub isPatch : List ℕ → Bool
 isPatch line =
     same (fieldAt line 0) (letterP ∷ []) && (same (fieldAt line 1) demichel || same (fieldAt line 1) kueppers)
@@ -82,7 +82,7 @@ inksBy number = inksOf (number 0) (number 1) (number 2)
 unfoldable pub inksIn : List ℕ → Inks
 inksIn line = inksBy (numberAt (drop 2 (fields line)))
 
--- "10 is tested before 1 to 4 within a line"
+-- rules 10.8 and 11.4: 10 comes before 1 to 4
 unfoldable pub screenRefusal : List ℕ → ℕ
 screenRefusal line = unless (isScreen line) 10 (refusalOf (screenIn line))
 
@@ -93,10 +93,10 @@ patchRefusal line = unless (isPatch line) 10 0
 unfoldable pub lineOf : ℕ → List ℕ → List ℕ
 lineOf letter numbers = letter ∷ joined (length numbers) (λ i. tab ∷ numeral (getD numbers i 0)) ++ newline ∷ []
 
--- "For each P it writes C and the eight counts."
+-- rule 10.6: the line for a P line
 unfoldable pub countsLine : Screen → List ℕ → List ℕ
 countsLine s line = lineOf letterC (upto (count s (separationIn line) (inksIn line)) 8)
 
--- "it writes only E, line number, refusal number"
+-- rule 10.7: the line for a bad line
 unfoldable pub errorLine : ℕ → ℕ → List ℕ
 errorLine number refusal = lineOf letterE (number ∷ refusal ∷ [])

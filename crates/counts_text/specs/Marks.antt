@@ -1,4 +1,4 @@
--- Document 01, 'Counts program': its listing, and small texts and numbers. proofs/AllMarks.antt shows them by computing the definitions.
+-- Rule 12.8, the program's text and its answer, and small texts and numbers. proofs/AllMarks.antt shows them by computing the definitions.
 -- Assumes nothing: these are statements.
 use mathlib.Core.Path.{_≡_}
 use mathlib.Core.Bool.{true, false}
@@ -43,7 +43,7 @@ pub record Marks : Type 0 where
   pub six-digits : isNumber (numeral (suc greatest)) ≡ false
   -- 7⇥x read over three numbers: the first is 7 then, and the others are as they were
   pub number-taken : numbersOver 255 (fields (55 ∷ 9 ∷ 120 ∷ [])) (1 ∷ 2 ∷ 3 ∷ []) ≡ 7 ∷ 2 ∷ 3 ∷ []
-  -- "Empty input writes E⇥1⇥10"
+  -- rule 12.8, no input: E⇥1⇥10
   pub empty : countsText [] ≡ 69 ∷ 9 ∷ 49 ∷ 9 ∷ 49 ∷ 48 ∷ 10 ∷ []
   -- S alone is E⇥1⇥10 too, as a line of another form, and not a slope of 0
   pub form-first : countsText (83 ∷ 10 ∷ []) ≡ 69 ∷ 9 ∷ 49 ∷ 9 ∷ 49 ∷ 48 ∷ 10 ∷ []

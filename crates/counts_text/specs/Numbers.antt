@@ -1,4 +1,4 @@
--- Document 01, 'Counts program': numbers as text.
+-- Rule 10.5: numbers as text.
 -- Assumes nothing: these are definitions.
 use Prim.Native.Nat.{ℕ, zero, suc, _+_, _-_, _*_, _/_, _%_}
 use mathlib.Core.Bool.{Bool, not, cond, _&&_, _||_}
@@ -14,7 +14,7 @@ zeroDigit = 48
 abbrev pub isDigit : ℕ → Bool
 isDigit byte = leb zeroDigit byte && leb byte (zeroDigit + 9)
 
--- "Numbers have 1 to 5 digits, no leading zero except 0 itself"
+-- 1 to 5 digits, the first of them 0 only where it is alone
 unfoldable pub isNumber : List ℕ → Bool
 isNumber field =
     leb 1 (length field) && leb (length field) 5 && every (length field) (λ i. isDigit (getD field i 0))

@@ -1,4 +1,4 @@
--- Document 01, 'Counts program': the text's lines and their fields.
+-- Rule 10.2: the text's lines and their fields.
 -- Assumes nothing: these are definitions.
 use Prim.Native.Nat.{ℕ, zero, suc}
 use mathlib.Core.Path.{_≡_}
@@ -7,7 +7,7 @@ use mathlib.Core.List.{List, [], _∷_, _++_}
 use lib.Dec.{eqb}
 use lib.ListN.{length, getD, drop}
 
--- "Each line, read or written, ends with byte 10, fields are parted by one tab"
+-- the bytes that end a line and part two fields
 abbrev pub newline : ℕ
 newline = 10
 

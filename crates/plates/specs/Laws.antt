@@ -13,7 +13,7 @@ use Rattle.plates.specs.Refusals.{packSize, unpackSize, packRefusal, unp
 
 -- ---- a plane's bits
 
--- the bit of pixel x in row y of plane p is set exactly where the pixel is one of the columns and its cell is p
+-- rule 8.2: the bit of pixel x in row y of plane p is set exactly where the pixel is one of the columns and its cell is p
 abbrev pub PlaneBit : Type 0
 PlaneBit =
     (columns rows : ℕ) (cells : List ℕ) (p y x : ℕ) → p < 8 → y < rows → x < 8 * rowBytes columns
@@ -23,13 +23,13 @@ PlaneBit =
 unfoldable pub bitsSet : ℕ → ℕ → List ℕ → ℕ → ℕ
 bitsSet columns rows planes p = sumBelow rows (λ y. sumBelow (8 * rowBytes columns) (λ x. bitAt (rowBytes columns) planes (p * rows + y) x))
 
--- a plane has as many bits set as its colorant's tally
+-- rule 8.7: a plane has as many bits set as its colorant's tally
 abbrev pub PlaneTally : Type 0
 PlaneTally =
     (columns rows : ℕ) (cells : List ℕ) → length cells ≡ cellsLength columns rows → (p : ℕ) → p < 8
     → bitsSet columns rows (planesOf columns rows cells) p ≡ tally p cells
 
--- ---- each call undoes the other
+-- ---- rule 8.7: each call undoes the other
 
 -- numbers of a slice of bytes
 abbrev pub Bytes : List ℕ → Type 0
@@ -82,9 +82,9 @@ SizesAgree =
     → (packSize columns rows cells planes ≡ 0 → unpackSize columns rows planes cells ≡ 0)
     × (unpackSize columns rows planes cells ≡ 0 → packSize columns rows cells planes ≡ 0)
 
--- ---- 9 exactly where the content offends
+-- ---- rule 11.13: 9 exactly where the content offends
 
--- "a byte above 7"
+-- a cell that is no colorant
 abbrev pub BadByte : List ℕ → Type 0
 BadByte cells = (i : ℕ) × (i < length cells) × (7 < getD cells i 0)
 
@@ -94,11 +94,11 @@ PackNine =
     → (packRefusal columns rows cells places ≡ 9 → (packSize columns rows (length cells) places ≡ 0) × BadByte cells)
     × (packSize columns rows (length cells) places ≡ 0 → BadByte cells → packRefusal columns rows cells places ≡ 9)
 
--- "a pixel not in exactly one plane"
+-- a pixel in no plane or in several
 abbrev pub BadPixel : ℕ → ℕ → List ℕ → Type 0
 BadPixel columns rows planes = (y : ℕ) × (x : ℕ) × (y < rows) × (x < columns) × (planesWith (rowBytes columns) rows planes y x ≢ 1)
 
--- "padding set": a bit past the last column, in row y of plane p
+-- a bit that is set past the last column, in row y of plane p
 abbrev pub BadPadding : ℕ → ℕ → List ℕ → Type 0
 BadPadding columns rows planes =
     (p : ℕ) × (y : ℕ) × (x : ℕ) × (p < 8) × (y < rows) × (columns ≤ x) × (x < 8 * rowBytes columns)

@@ -16,7 +16,7 @@ cells = 0 ∷ 1 ∷ 1 ∷ 7 ∷ []
 abbrev pub planes : List ℕ
 planes = 128 ∷ 0 ∷ 64 ∷ 128 ∷ 0 ∷ 0 ∷ 0 ∷ 0 ∷ 0 ∷ 0 ∷ 0 ∷ 0 ∷ 0 ∷ 0 ∷ 0 ∷ 64 ∷ []
 
--- one pixel's planes: "128, 128, then six 0", and white with the first padding bit set
+-- one pixel's planes: rule 11.13's example, and white with the first padding bit set
 abbrev pub twice : List ℕ
 twice = 128 ∷ 128 ∷ 0 ∷ 0 ∷ 0 ∷ 0 ∷ 0 ∷ 0 ∷ []
 
@@ -24,7 +24,7 @@ abbrev pub padded : List ℕ
 padded = 0 ∷ 0 ∷ 0 ∷ 0 ∷ 0 ∷ 0 ∷ 0 ∷ 192 ∷ []
 
 pub record Marks : Type 0 where
-  -- "X + W or Y + R above 65,536", then the lengths, input first, then 9
+  -- off the sheet, then the lengths, input first, then 9
   pub off-the-sheet : packRefusal 1 65537 [] 0 ≡ 5
   pub cells-missing : packRefusal 1 1 [] 0 ≡ 6
   pub planes-missing : packRefusal 1 1 (8 ∷ []) 0 ≡ 7

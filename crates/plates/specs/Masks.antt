@@ -1,10 +1,10 @@
--- Document 01, 'Plates': the bit mask of a pixel.
+-- Rule 8.3: the bit mask of a pixel.
 -- Assumes nothing: these are definitions.
 use Prim.Native.Nat.{ℕ, _/_, _%_}
 use mathlib.Core.List.{[], _∷_}
 use lib.ListN.{getD}
 
--- "Pixel x of a row is bit mask 128, 64, 32, 16, 8, 4, 2, 1 by x mod 8, from a table of eight."
+-- mask number x mod 8 of the table
 unfoldable pub mask : ℕ → ℕ
 mask x = getD (128 ∷ 64 ∷ 32 ∷ 16 ∷ 8 ∷ 4 ∷ 2 ∷ 1 ∷ []) (x % 8) 0
 

@@ -1,4 +1,4 @@
--- Document 01, 'Plates': the eight planes of a window's cells, and the cells of eight planes.
+-- Rules 8.1 to 8.6: the eight planes of a window's cells, and the cells of eight planes.
 -- Assumes nothing: these are definitions.
 use Prim.Native.Nat.{ℕ, _+_, _-_, _*_, _/_, _%_}
 use mathlib.Core.Bool.{Bool, _&&_}
@@ -14,7 +14,7 @@ use Rattle.plates.specs.Masks.{mask, bit}
 
 -- ---- the layout
 
--- "Eight planes, colorant 0 first, each R rows of W / 8 rounded up bytes." The bytes of a row:
+-- rule 8.1: the bytes of a row
 abbrev pub rowBytes : ℕ → ℕ
 rowBytes columns = roundedUp columns 8
 
@@ -39,8 +39,8 @@ bitAt bytes planes row x = bit (getD planes (row * bytes + x / 8) 0) x
 abbrev pub inPlane : ℕ → (ℕ → ℕ) → ℕ → ℕ → Bool
 inPlane columns cell p x = ltb x columns && eqb (cell x) p
 
--- Byte b of a row of plane p: the masks of those of its eight pixels that have the colorant p.
--- "Padding bits are 0": a pixel past the row's columns adds no mask.
+-- Rules 8.2 and 8.5, byte b of a row of plane p: the masks of those of its eight pixels that have the colorant p.
+-- Rule 8.4: a pixel past the row's columns adds no mask.
 unfoldable pub masksUpTo : ℕ → (ℕ → ℕ) → ℕ → ℕ → ℕ → ℕ
 masksUpTo columns cell p b pixels = sumBelow pixels (λ t. indicator (inPlane columns cell p (8 * b + t)) * mask (8 * b + t))
 
@@ -62,7 +62,7 @@ planesOf columns rows cells = upto (planesByte columns rows cells) (planesLength
 unfoldable pub planesWith : ℕ → ℕ → List ℕ → ℕ → ℕ → ℕ
 planesWith bytes rows planes y x = sumBelow 8 (λ p. bitAt bytes planes (p * rows + y) x)
 
--- the number of the first plane that pixel (x, y) is in, which is its colorant; 8 where it is in none
+-- rule 8.6: the number of the first plane that pixel (x, y) is in, which is its colorant; 8 where it is in none
 unfoldable pub colorantOf : ℕ → ℕ → List ℕ → ℕ → ℕ → ℕ
 colorantOf bytes rows planes y x = firstBelow 8 (λ p. eqb (bitAt bytes planes (p * rows + y) x) 1)
 

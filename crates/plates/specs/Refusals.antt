@@ -1,4 +1,4 @@
--- Document 01, 'When a call is refused', for plates: refusals 5, 6, 7 and 9, and what the two calls leave in lent memory.
+-- Rules 11.4, 11.9 to 11.11 and 11.13 for plates: refusals 5, 6, 7 and 9, and what the two calls leave in lent memory.
 -- Assumes nothing: these are definitions.
 use Prim.Native.Nat.{ℕ}
 use mathlib.Core.Bool.{_&&_}
@@ -9,11 +9,11 @@ use Rattle.arith.specs.Refusal.{unless, orElse, written}
 use Rattle.arith.specs.Sheet.{onSheet}
 use Rattle.plates.specs.Planes.{planesLength, cellsLength, planesOf, cellsOf, colorantsOnly, pixelsOnce, paddingClear}
 
--- 6, "input length not the stated one", then 7, "output length not the stated one"
+-- rules 11.10 and 11.11: 6, the length of the input, then 7, that of the output
 unfoldable pub lengthsRefusal : ℕ → ℕ → ℕ → ℕ → ℕ
 lengthsRefusal input inputStated output outputStated = unless (eqb input inputStated) 6 (unless (eqb output outputStated) 7 0)
 
--- and before them 5, "X + W or Y + R above 65,536 (plates: X = Y = 0 ..)"
+-- rule 11.9: before them 5, a plate being a window at the sheet's corner
 unfoldable pub sizeRefusal : ℕ → ℕ → ℕ → ℕ → ℕ → ℕ → ℕ
 sizeRefusal columns rows input inputStated output outputStated =
     unless (onSheet 0 0 columns rows) 5 (lengthsRefusal input inputStated output outputStated)
@@ -25,11 +25,11 @@ packSize columns rows cells planes = sizeRefusal columns rows cells (cellsLength
 abbrev pub unpackSize : ℕ → ℕ → ℕ → ℕ → ℕ
 unpackSize columns rows planes cells = sizeRefusal columns rows planes (planesLength columns rows) cells (cellsLength columns rows)
 
--- then 9: "packing: a byte above 7"
+-- rule 11.13: then 9, in packing a byte above 7,
 unfoldable pub packRefusal : ℕ → ℕ → List ℕ → ℕ → ℕ
 packRefusal columns rows cells places = orElse (packSize columns rows (length cells) places) (unless (colorantsOnly cells) 9 0)
 
--- "unpacking: a pixel not in exactly one plane, or padding set"
+-- in unpacking a pixel in no plane or in several, or padding that is set
 unfoldable pub unpackRefusal : ℕ → ℕ → List ℕ → ℕ → ℕ
 unpackRefusal columns rows planes places =
     orElse (unpackSize columns rows (length planes) places)

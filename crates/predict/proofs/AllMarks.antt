@@ -12,7 +12,7 @@ use Rattle.separation.specs.declared.Separation.the-variants.{Kueppers}
 use Rattle.separation.specs.Weights.{weight, scaleOf}
 use Rattle.quantiser.specs.Running.{weightUpTo, level, running, count}
 use Rattle.predict.specs.Predicted.{firstBad, total, channel, predicted}
-use Rattle.predict.specs.Paper.{predictRefusal, ruled}
+use Rattle.predict.specs.Numbered.{predictRefusal, ruled}
 use Rattle.predict.specs.Marks.{whole, cyan, Marks}
 
 pub marks : Marks
@@ -33,8 +33,8 @@ marks =
       full-tone = refl;
       bad-primary = refl;
       bad-screen = refl;
-      paper-primary = refl;
-      paper-screen = refl;
+      numbered-primary = refl;
+      numbered-screen = refl;
       minus-zero-law =
           λ law good. law listed refl Kueppers cyan (omega arith) whole good 0 (omega arith) refl 200 0 0 (omega arith, tt) (omega arith, tt) (omega arith, tt);
       nan-law = λ good. good 1 (omega arith);

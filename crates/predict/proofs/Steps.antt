@@ -24,7 +24,7 @@ use Rattle.predict.specs.declared.Xyz.{Xyz}
 use Rattle.predict.specs.declared.Prediction.{Prediction}
 use Rattle.predict.specs.declared.Prediction.the-variants.{BadPrimary, BadScreen}
 use Rattle.predict.specs.Predicted.{primary, admitted, firstBad, more, total, totals, channel, meanOf, predicted}
-use Rattle.predict.specs.Paper.{paperOf, predictRefusal, ruled}
+use Rattle.predict.specs.Numbered.{numberedOf, predictRefusal, ruled}
 use Rattle.predict.specs.Laws.{AllAdmitted}
 
 -- ---- sums
@@ -87,19 +87,19 @@ module _ (s : Screen) (sep : Separation) (inks : Inks) (ps : List Xyz) where
   unfolding predicted
   predicted-mean ok l = rw (eq-eqb (refusalOf s) 0 ok, le-ltb (firstBad ps) 8 l)
 
-  -- in the paper's numbers
-  paper-ruled : paperOf (predicted s sep inks ps) ≡ ruled s sep inks ps
+  -- in numbers
+  numbered-ruled : numberedOf (predicted s sep inks ps) ≡ ruled s sep inks ps
   unfolding ruled predictRefusal
-  paper-ruled = go (ℕ-discrete (refusalOf s) 0) (decLt (firstBad ps) 8)
+  numbered-ruled = go (ℕ-discrete (refusalOf s) 0) (decLt (firstBad ps) 8)
     where
-      go : Dec (refusalOf s ≡ 0) → Dec (firstBad ps < 8) → paperOf (predicted s sep inks ps) ≡ ruled s sep inks ps
+      go : Dec (refusalOf s ≡ 0) → Dec (firstBad ps < 8) → numberedOf (predicted s sep inks ps) ≡ ruled s sep inks ps
       go (no h) d = rw (predicted-screen h, ne-eqb (refusalOf s) 0 h, ne-eqb (refusalOf s) 0 h)
       go (yes ok) (yes l) = rw (predicted-primary ok l, eq-eqb (refusalOf s) 0 ok, lt-ltb (firstBad ps) 8 l)
       go (yes ok) (no l) = rw (predicted-mean ok (omega arith), eq-eqb (refusalOf s) 0 ok, le-ltb (firstBad ps) 8 (omega arith))
 
   -- an answer that is the definition's keeps both promises
-  pub promised : (r : Prediction) → r ≡ predicted s sep inks ps → (r ≡ predicted s sep inks ps) × (paperOf r ≡ ruled s sep inks ps)
-  promised r e = (e, ap paperOf e ∙ paper-ruled)
+  pub promised : (r : Prediction) → r ≡ predicted s sep inks ps → (r ≡ predicted s sep inks ps) × (numberedOf r ≡ ruled s sep inks ps)
+  promised r e = (e, ap numberedOf e ∙ numbered-ruled)
 
   -- from the counts that `quantiser` answers
   pub screen-refused : (counts : Counts) → counts ≡ countsOf s sep inks → (counts .refusal ≡ 0 → ⊥) → BadScreen (counts .refusal) ≡ predicted s sep inks ps

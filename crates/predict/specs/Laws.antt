@@ -26,8 +26,7 @@ valueOf v = ofInt binary64 (pos v)
 abbrev pub IsWhole : Float → ℕ → Type 0
 IsWhole x v = (v ≤ 200) × T (eq x (valueOf v))
 
--- "Where one colorant has all N cells and its values are whole numbers, they come back exactly (negative zero as plus zero)":
--- of every admitted screen, whatever the other primaries hold within their limits
+-- rule 9.4, full tones are exact: on every admitted screen, whatever the other primaries hold within their limits
 abbrev pub FullTone : Type 0
 FullTone =
     Always
@@ -38,6 +37,6 @@ FullTone =
 abbrev pub minusZero : Float
 minusZero = fin true 0 (pos 0)
 
--- "exactly": the f64 of a whole number is the very value that was it, unless that was negative zero
+-- and so it is the value itself: the f64 of a whole number is the very value that was it, unless that was negative zero
 abbrev pub WholeItself : Type 0
 WholeItself = (x : Float) (v : ℕ) → T (fits binary64 x) → IsWhole x v → (x ≡ valueOf v) ⊎ (x ≡ minusZero)

@@ -1,4 +1,4 @@
 pub mod Predicted
-pub mod Paper
+pub mod Numbered
 pub mod Laws
 pub mod Marks

@@ -13,7 +13,7 @@ use Rattle.separation.specs.Marks.{half}
 use Rattle.predict.specs.declared.Xyz.{Xyz}
 use Rattle.predict.specs.declared.Prediction.the-variants.{Colour, BadPrimary, BadScreen}
 use Rattle.predict.specs.Predicted.{plusZero, limit, primary, within, total, channel, predicted}
-use Rattle.predict.specs.Paper.{paperOf, ruled}
+use Rattle.predict.specs.Numbered.{numberedOf, ruled}
 use Rattle.predict.specs.Laws.{AllAdmitted, FullTone, minusZero}
 
 -- 0.1, and a primary of it, -0 and 200
@@ -63,9 +63,9 @@ pub record Marks : Type 0 where
   pub full-tone : predicted listed Kueppers cyan primaries ≡ Colour tenth plusZero limit
   pub bad-primary : predicted listed Kueppers cyan magentaUnset ≡ BadPrimary 1
   pub bad-screen : predicted sloped Kueppers cyan magentaUnset ≡ BadScreen 1
-  -- the same two in the paper's numbers
-  pub paper-primary : ruled listed Kueppers cyan magentaUnset ≡ paperOf (BadPrimary 1)
-  pub paper-screen : ruled sloped Kueppers cyan magentaUnset ≡ paperOf (BadScreen 1)
+  -- the same two in numbers
+  pub numbered-primary : ruled listed Kueppers cyan magentaUnset ≡ numberedOf (BadPrimary 1)
+  pub numbered-screen : ruled sloped Kueppers cyan magentaUnset ≡ numberedOf (BadScreen 1)
   -- what the law of full tones says of -0, and that a NaN is not within its limits
   pub minus-zero-law : FullTone → AllAdmitted whole → predicted listed Kueppers cyan whole ≡ Colour limit plusZero plusZero
   pub nan-law : AllAdmitted magentaUnset → false ≡ true

@@ -1,4 +1,4 @@
--- Document 01, 'Predicted colour'. Numbers and operations are those of IEEE 754's binary64, as the library lib.Ieee defines them:
+-- Rules 9.1 to 9.5: the predicted colour. Numbers and operations are those of IEEE 754's binary64, as the library lib.Ieee defines them:
 -- `add`, `mul`, `div` and `ofInt` round once, to nearest, ties to even.
 -- Assumes nothing: these are definitions.
 use Prim.Native.Nat.{ℕ, zero, suc}
@@ -25,43 +25,42 @@ plusZero = fin false 0 (pos 0)
 abbrev pub limit : Float
 limit = fin false 25 (pos 3)
 
--- "Eight primaries, each an X, Y, Z record of f64 values": that of colorant j. The NaNs stand for a ninth, which no call has.
+-- rule 9.2: the primary of colorant j. The NaNs stand for a ninth, which no call has.
 abbrev pub primary : List Xyz → ℕ → Xyz
 primary ps j = getD ps j (record { x = nan; y = nan; z = nan })
 
--- "every one at least 0 and at most 200": IEEE's comparison, by which -0 is 0 and a NaN is neither
+-- rule 9.2, the limits of a value: IEEE's comparison, by which -0 is 0 and a NaN is neither
 abbrev pub within : Float → Bool
 within v = le plusZero v && le v limit
 
 abbrev pub admitted : Xyz → Bool
 admitted p = within (p .x) && within (p .y) && within (p .z)
 
--- "the number of the first colorant with a bad value", and 8 where there is none
+-- rule 9.5: the first colorant that has a value which is not admitted, and 8 where there is none
 unfoldable pub firstBad : List Xyz → ℕ
 firstBad ps = firstBelow 8 (λ j. not (admitted (primary ps j)))
 
--- "add count × value"
+-- rule 9.3: a sum with one more product added
 abbrev pub more : Float → ℕ → Float → Float
 more sum c v = add binary64 sum (mul binary64 (ofInt binary64 (pos c)) v)
 
--- "begin with 0, add count × value for colorants 0 to 7 in order": the sum over the first k colorants, by their counts and values
+-- the sum over the first k colorants, by their counts and values
 unfoldable pub total : ℕ → (ℕ → ℕ) → (ℕ → Float) → Float
 total zero c v = plusZero
 total (suc k) c v = more (total k c v) (c k) (v k)
 
--- "divide by N"
+-- and the sum over all, divided
 unfoldable pub channel : (ℕ → ℕ) → ℕ → (ℕ → Float) → Float
 channel c n v = div binary64 (total 8 c v) (ofInt binary64 (pos n))
 
--- "For each of X, Y, Z"
+-- the same of X, Y and Z
 abbrev pub totals : ℕ → (ℕ → ℕ) → List Xyz → Xyz
 totals k c ps = record { x = total k c (λ j. primary ps j .x); y = total k c (λ j. primary ps j .y); z = total k c (λ j. primary ps j .z) }
 
 abbrev pub meanOf : (ℕ → ℕ) → ℕ → List Xyz → Prediction
 meanOf c n ps = Colour (channel c n (λ j. primary ps j .x)) (channel c n (λ j. primary ps j .y)) (channel c n (λ j. primary ps j .z))
 
--- What `predict` answers: "either the triple or the number of the first colorant with a bad value; a bad screen is refused before
--- that, by 1 to 4".
+-- rule 9.5: what `predict` answers
 unfoldable pub predicted : Screen → Separation → Inks → List Xyz → Prediction
 predicted s sep inks ps =
     cond (eqb (refusalOf s) 0)

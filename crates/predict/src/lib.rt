@@ -1,8 +1,8 @@
-// Predicted colour: the mean of the primaries over a screen's cells (document 01, 'Predicted colour').
+// Predicted colour: the mean of the primaries over a screen's cells (rules 9.1 to 9.5).
 ghost use mathlib.Core.Path.{_≡_};
 ghost use lib.ListN.{getD};
 ghost use Rattle.predict.specs.Predicted.{within, admitted, firstBad, more, totals, meanOf, predicted};
-ghost use Rattle.predict.specs.Paper.{paperOf, ruled};
+ghost use Rattle.predict.specs.Numbered.{numberedOf, ruled};
 use screen::Screen;
 use separation::Inks;
 use separation::Separation;
@@ -14,7 +14,8 @@ pub struct Xyz {
     pub z: f64,
 }
 
-// The predicted X, Y and Z, the first colorant with a bad value, or what refuses the screen.
+// The predicted X, Y and Z, the first colorant that has a value beyond its limits, or what refuses the
+// screen.
 pub enum Prediction {
     Colour(f64, f64, f64),
     BadPrimary(u32),
@@ -24,7 +25,7 @@ pub enum Prediction {
 // The colour that a screen's cells give together for one ink triple, each colorant being as its primary.
 pub fn predict(s: Screen, sep: Separation, inks: Inks, primaries: [Xyz; 8]) -> Prediction
     ensures answer { λ r. ⌜ r ≡ predicted s sep inks primaries ⌝ }
-    ensures paper { λ r. ⌜ paperOf r ≡ ruled s sep inks primaries ⌝ }
+    ensures numbered { λ r. ⌜ numberedOf r ≡ ruled s sep inks primaries ⌝ }
 {
     let counts = quantiser::counts(s, sep, inks);
     if counts.refusal != 0 {
@@ -58,7 +59,7 @@ fn is_admitted(p: Xyz) -> bool
     in_range(p.x) && in_range(p.y) && in_range(p.z)
 }
 
-// Whether a value is at least 0 and at most 200; a NaN is neither.
+// Whether a value lies from 0 to 200; a NaN does not.
 fn in_range(v: f64) -> bool
     ensures { λ r. ⌜ r ≡ within v ⌝ }
 {

@@ -25,24 +25,25 @@ Always P = (s : Screen) → Admitted s → (sep : Separation) (inks : Inks) → 
 
 -- ---- running sums and counts
 
--- C never falls, and C(7) = N
+-- rule 5.2: C never falls, and C(7) = N
 abbrev pub RunningRises : Type 0
 RunningRises = (s : Screen) (sep : Separation) (inks : Inks) (j : ℕ) → running s sep inks j ≤ running s sep inks (suc j)
 
 abbrev pub RunningEnds : Type 0
 RunningEnds = Always (λ s sep inks. running s sep inks 7 ≡ s .n)
 
+-- rule 5.4: the counts add up to N
 abbrev pub CountsAddUp : Type 0
 CountsAddUp = Always (λ s sep inks. sumBelow 8 (count s sep inks) ≡ s .n)
 
--- "counts are shares rounded down or up", "a colorant's share is N × weight / D": of one colorant, and of all
+-- rules 4.5 and 13.5, the count is the share rounded down or up: of one colorant, and of all
 abbrev pub ShareRounded : Screen → Separation → Inks → ℕ → Type 0
 ShareRounded s sep inks j = Rounded (s .n * weight sep inks j) (scaleOf sep) (count s sep inks j)
 
 abbrev pub CountShare : Type 0
 CountShare = Always (λ s sep inks. (j : ℕ) → ShareRounded s sep inks j)
 
--- "Halves can't occur, D being odd.": N × A(j) is never an odd multiple of D / 2
+-- rule 5.3, no halves: 2 × N × A(j) is never an odd multiple of D
 abbrev pub HalvesNever : Type 0
 HalvesNever = (s : Screen) (sep : Separation) (inks : Inks) (j m : ℕ) → 2 * (s .n * weightUpTo sep inks j) ≡ (2 * m + 1) * scaleOf sep → ⊥
 
@@ -58,11 +59,11 @@ ScaleLimit = (sep : Separation) → scaleOf sep ≤ 16581375
 
 -- ---- subscreens
 
--- the subscreens' sizes add up to N
+-- rule 6.1: the subscreens' sizes add up to N
 abbrev pub SubscreensAddUp : Type 0
 SubscreensAddUp = (s : Screen) → Admitted s → subscreenStart s (s .k) ≡ s .n
 
--- they follow each other: the phase at distance q in subscreen k is the q-th from its start, and every phase below N is such a one
+-- rule 6.2, they follow each other: the phase at distance q in subscreen k is the q-th from its start, and every phase below N is such a one
 abbrev pub SubscreenPlaces : Type 0
 SubscreenPlaces =
     (s : Screen) → Admitted s → (k q : ℕ) → k < s .k → q < subscreenSize s k
@@ -75,39 +76,39 @@ PhasePlace =
 
 -- ---- colorants of phases
 
--- every phase below N has a colorant
+-- rule 6.3: every phase below N has a colorant
 abbrev pub ColorantBelow : Type 0
 ColorantBelow = Always (λ s sep inks. (p : ℕ) → p < s .n → colorantOf s sep inks p < 8)
 
--- in subscreen k exactly (C(j) + k) / K − (C(j − 1) + k) / K phases have colorant j
+-- rule 6.4: in subscreen k exactly ⌊(C(j) + k) / K⌋ − ⌊(C(j − 1) + k) / K⌋ phases have colorant j
 abbrev pub PhasesInSubscreen : Type 0
 PhasesInSubscreen =
     Always
     (λ s sep inks. (k j : ℕ) → k < s .k → j < 8
     → phasesIn s sep inks k j ≡ fillUpTo s sep inks k j - before (fillUpTo s sep inks k) j)
 
--- "subscreens split them evenly": of a number of cells of colorant j, that it is the colorant's count / K rounded down or up; and that the
--- number of its phases in each subscreen is such a one
+-- rules 6.4 and 13.6, subscreens share evenly: of a number of cells of colorant j, that it is the colorant's count / K rounded down or up; and
+-- that the number of its phases in each subscreen is such a one
 abbrev pub SplitEvenly : Screen → Separation → Inks → ℕ → ℕ → Type 0
 SplitEvenly s sep inks j cells = Rounded (count s sep inks j) (s .k) cells
 
 abbrev pub SubscreenShare : Type 0
 SubscreenShare = Always (λ s sep inks. (k j : ℕ) → k < s .k → j < 8 → SplitEvenly s sep inks j (phasesIn s sep inks k j))
 
--- over all phases exactly the count have colorant j
+-- rule 6.4: over all phases exactly the count have colorant j
 abbrev pub PhasesInAll : Type 0
 PhasesInAll = Always (λ s sep inks. (j : ℕ) → j < 8 → phasesOf s sep inks j ≡ count s sep inks j)
 
 -- ---- thresholds
 
--- a cell has the first colorant whose running sum is at least its threshold
+-- rule 6.5: a cell has the first colorant whose running sum is at least its threshold
 abbrev pub ThresholdLaw : Type 0
 ThresholdLaw =
     Always
     (λ s sep inks. (k q : ℕ) → k < s .k
     → colorantAt s sep inks k q ≡ firstBelow 8 (λ j. leb (thresholdAt s k q) (running s sep inks j)))
 
--- the thresholds of the phases are 1 to N, each exactly once
+-- rule 6.5: the thresholds of the phases are 1 to N, each exactly once
 abbrev pub ThresholdWithin : Type 0
 ThresholdWithin = (s : Screen) → Admitted s → (p : ℕ) → p < s .n → (1 ≤ thresholdOf s p) × (thresholdOf s p ≤ s .n)
 

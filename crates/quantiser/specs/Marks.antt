@@ -1,5 +1,5 @@
--- The starred marks of document 01, collected, and two small cases of the laws. proofs/AllMarks.antt shows them by computing the
--- definitions.
+-- Rules 12.1 to 12.6, the worked examples up to here in one statement, and two small cases of the laws. proofs/AllMarks.antt shows them
+-- by computing the definitions.
 -- Assumes nothing: these are statements.
 use mathlib.Core.Path.{_≡_}
 use mathlib.Core.List.{[], _∷_}
@@ -15,23 +15,22 @@ use Rattle.quantiser.specs.Subscreens.{subscreenSize, colorantOf, phases
 use Rattle.quantiser.specs.Laws.{ShareRounded, SplitEvenly}
 
 pub record Marks : Type 0 where
-  -- the bricks of three screens and the phases 98 and 103
+  -- rules 12.1 and 12.2: the bricks of three screens and the phases 98 and 103
   pub screens : Screens.Marks
-  -- the counts of the first P: 26, 26, 0, 27, 0, 0, 0, 26
+  -- rule 12.3
   pub first-p : upto (count listed Demichel half) 8 ≡ 26 ∷ 26 ∷ 0 ∷ 27 ∷ 0 ∷ 0 ∷ 0 ∷ 26 ∷ []
-  -- "The first P above, K = 2: subscreens of 52 and 53 cells"
+  -- rule 12.4: the sizes of the subscreens, and how many phases of each colorant they have
   pub sizes : (subscreenSize listed 0 ≡ 52) × (subscreenSize listed 1 ≡ 53)
-  -- "counts 13, 13, 0, 13, 0, 0, 0, 13 and 13, 13, 0, 14, 0, 0, 0, 13"
   pub in-subscreen-0 : upto (phasesIn listed Demichel half 0) 8 ≡ 13 ∷ 13 ∷ 0 ∷ 13 ∷ 0 ∷ 0 ∷ 0 ∷ 13 ∷ []
   pub in-subscreen-1 : upto (phasesIn listed Demichel half 1) 8 ≡ 13 ∷ 13 ∷ 0 ∷ 14 ∷ 0 ∷ 0 ∷ 0 ∷ 13 ∷ []
   -- blue's 27 are its share of 26.46 rounded up, and 14 of them in a subscreen are half of 27 rounded up
   pub share-blue : ShareRounded listed Demichel half 3
   pub split-blue : SplitEvenly listed Demichel half 3 14
-  -- "Phase 39 is white, phase 91 blue."
+  -- rule 12.4: the colorants of two phases
   pub phase-39 : colorantOf listed Demichel half 39 ≡ 7
   pub phase-91 : colorantOf listed Demichel half 91 ≡ 3
-  -- "Kueppers 51, 102, 204, N = 70: 0, 0, 28, 0, 0, 14, 14, 14."
+  -- rule 12.5
   pub kueppers-70 : upto (count tworowed Kueppers rising) 8 ≡ 0 ∷ 0 ∷ 28 ∷ 0 ∷ 0 ∷ 14 ∷ 14 ∷ 14 ∷ []
-  -- "Kueppers, N = 1: 128, 0, 0 is cyan; 127, 0, 0 white."
+  -- rule 12.6
   pub kueppers-cyan : colorantOf (screenOf 1 2 1 1 0) Kueppers (inksOf 128 0 0) 0 ≡ 0
   pub kueppers-white : colorantOf (screenOf 1 2 1 1 0) Kueppers (inksOf 127 0 0) 0 ≡ 7

@@ -1,4 +1,4 @@
--- Document 01, 'Quantised counts and subscreens', second paragraph: subscreens, and the colorant of a phase.
+-- Rules 6.1 to 6.4: subscreens, and the colorant of a phase.
 -- Assumes nothing: these are definitions.
 use Prim.Native.Nat.{ℕ, suc, _+_, _-_, _/_}
 use mathlib.Core.Bool.{_&&_}
@@ -10,11 +10,11 @@ use Rattle.separation.specs.declared.Separation.{Separation}
 use Rattle.separation.specs.declared.Inks.{Inks}
 use Rattle.quantiser.specs.Running.{running}
 
--- "Subscreen k (0 to K − 1) has (N + k) / K cells rounded down."
+-- rule 6.1: the size of subscreen k
 unfoldable pub subscreenSize : Screen → ℕ → ℕ
 subscreenSize s k = (s .n + k) / s .k
 
--- "They follow each other from phase 0."
+-- rule 6.2: the first phase of subscreen k
 unfoldable pub subscreenStart : Screen → ℕ → ℕ
 subscreenStart s k = sumBelow k (subscreenSize s)
 
@@ -29,7 +29,7 @@ distanceOf s p = p - subscreenStart s (subscreenOf s p)
 unfoldable pub fillUpTo : Screen → Separation → Inks → ℕ → ℕ → ℕ
 fillUpTo s sep inks k j = (running s sep inks j + k) / s .k
 
--- "A cell in k at distance q from its start has the first colorant j for which q is below (C(j) + k) / K rounded down."
+-- rule 6.3: the colorant in subscreen k at distance q
 unfoldable pub colorantAt : Screen → Separation → Inks → ℕ → ℕ → ℕ
 colorantAt s sep inks k q = firstBelow 8 (λ j. ltb q (fillUpTo s sep inks k j))
 

@@ -1,4 +1,4 @@
-// Quantised counts, and the colorant of a phase (document 01, 'Quantised counts and subscreens').
+// Quantised counts, and the colorant of a phase (rules 5.1 to 6.5).
 pub mod answer;
 mod cells;
 mod counting;

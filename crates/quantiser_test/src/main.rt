@@ -1,4 +1,4 @@
-// Prints what the calls of `separation` and `quantiser` answer: the worked marks of document 01, both
+// Prints what the calls of `separation` and `quantiser` answer: the worked examples of the rules, both
 // separations at the corners, each limit of the screen, tables of thresholds, the colorants of
 // phases, and mixed cases. The file stdout holds what this must print.
 ghost use Prim.Native.Nat.{_<_};
@@ -88,7 +88,7 @@ fn mixed_values() {
     show_weights(inks_of(99, 100, 101));
 }
 
-// The counts of document 01; those of one colorant alone, and halves beside 1 cell.
+// The counts of rules 12.3, 12.5 and 12.6; those of one colorant alone, and halves beside 1 cell.
 fn marks() {
     let listed = screen_of(4, 7, 105, 2, 0);
     show_both(listed, inks_of(128, 128, 0));
@@ -151,7 +151,7 @@ fn tables() {
     show_table(screen_of(4, 7, 20, 3, 20), 19);
 }
 
-// Where each colorant stands: the screens of document 01, k equal to n, and k of 16.
+// Where each colorant stands: the screens of rules 12.1 to 12.6, k equal to n, and k of 16.
 fn phases() {
     show_phases(screen_of(4, 7, 105, 2, 0), inks_of(128, 128, 0));
     show_phases(screen_of(4, 7, 70, 3, 0), inks_of(51, 102, 204));

@@ -16,7 +16,7 @@ use Rattle.quantiser.specs.Running.{weightUpTo, level, running, count}
 use Rattle.quantiser.specs.Subscreens.{subscreenSize, subscreenStart, subscreenOf, distanceOf, fillUpTo, colorantAt, colorantOf}
 use Rattle.render.specs.Windows.{cellOf, windowCell, windowCells, talliesOf}
 use Rattle.render.specs.Answers.{windowRefusal, dueIn, brickRefusal, answerOf, rendering, rendered, brickRendering, brickRendered}
-use Rattle.render.specs.Demand.{bytesInSubscreen}
+use Rattle.render.specs.Finished.{bytesInSubscreen}
 use Rattle.render.specs.Marks.{Marks}
 
 pub marks : Marks

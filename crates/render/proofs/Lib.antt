@@ -5,4 +5,4 @@ mod AnswerLaws
 mod RowLoop
 mod BrickRow
 mod WindowLoop
-mod DemandLaws
+mod FinishedLaws

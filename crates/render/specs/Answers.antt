@@ -1,4 +1,4 @@
--- Document 01, 'Renderers and tally' and 'When a call is refused': what the calls answer, and what they leave in the output.
+-- Rules 7.5, 7.6 and 7.8 and rules 11.4 to 11.12: what the calls answer, and what they leave in the output.
 -- Assumes nothing: these are definitions.
 use Prim.Native.Nat.{ℕ, _*_}
 use mathlib.Core.Bool.{Bool, cond, _&&_}
@@ -20,8 +20,8 @@ use Rattle.render.specs.declared.Rendering.{Rendering}
 use Rattle.render.specs.declared.Cell.{Cell}
 use Rattle.render.specs.Windows.{area, cellOf, windowCells, talliesOf}
 
--- Refusals of a window on a screen with input and output of the given lengths: 1 to 4; 5, "X + W or Y + R above 65,536"; 6, "input
--- length not the stated one"; 7, "output length not the stated one".
+-- Refusals of a window on a screen with input and output of the given lengths: 1 to 4; 5, off the sheet (rule 11.9); 6 and 7, the
+-- lengths (rules 11.10 and 11.11).
 unfoldable pub windowRefusal : Screen → Window → ℕ → ℕ → ℕ
 windowRefusal s w inputs outputs =
     orElse (refusalOf s)
@@ -32,28 +32,28 @@ windowRefusal s w inputs outputs =
 unfoldable pub dueIn : Screen → List ℕ → Bool
 dueIn s brick = leb (s .n) (length brick) && every (s .n) (λ i. eqb (getD brick i 0) (phaseAtPlace (s .a) (s .b) (s .n) (s .g) i))
 
--- then 8, "brick buffer below N places, or, when rendering, one of its first N numbers not the phase due there"
+-- then 8, a buffer that is no true brick (rule 11.12)
 unfoldable pub brickRefusal : Screen → Window → ℕ → ℕ → List ℕ → ℕ
 brickRefusal s w inputs outputs brick = orElse (windowRefusal s w inputs outputs) (unless (dueIn s brick) 8 0)
 
--- what a renderer answers for cells, given its refusal: "both return the same number and eight zeros"
+-- what a renderer answers for cells, given its refusal: with that, eight zeros (rules 7.4 and 11.3)
 unfoldable pub answerOf : ℕ → List ℕ → Rendering
 answerOf refusal cells = record { refusal = refusal; tallies = cond (eqb refusal 0) (talliesOf cells) (zeros 8) }
 
--- `render`: its answer and the output that it leaves
+-- rule 7.5, `render`: its answer and the output that it leaves
 unfoldable pub rendering : Screen → Separation → Window → List ℕ → List ℕ → Rendering
 rendering s sep w input out = answerOf (windowRefusal s w (length input) (length out)) (windowCells s sep w input)
 
 unfoldable pub rendered : Screen → Separation → Window → List ℕ → List ℕ → List ℕ
 rendered s sep w input out = written (windowRefusal s w (length input) (length out)) (windowCells s sep w input) out
 
--- `render_brick`: the same, with its own refusal
+-- rule 7.6, `render_brick`: the same, with its own refusal
 unfoldable pub brickRendering : Screen → Separation → Window → List ℕ → List ℕ → List ℕ → Rendering
 brickRendering s sep w input brick out = answerOf (brickRefusal s w (length input) (length out) brick) (windowCells s sep w input)
 
 unfoldable pub brickRendered : Screen → Separation → Window → List ℕ → List ℕ → List ℕ → List ℕ
 brickRendered s sep w input brick out = written (brickRefusal s w (length input) (length out) brick) (windowCells s sep w input) out
 
--- `cell_at`: the colorant of a lone place, refused as the place is
+-- rule 7.8, `cell_at`: the colorant of a lone place, refused as the place is
 unfoldable pub loneCell : Screen → Separation → ℕ → ℕ → Inks → Cell
 loneCell s sep x y inks = record { refusal = placeRefusal s x y; colorant = answered (placeRefusal s x y) (cellOf s sep x y inks) }

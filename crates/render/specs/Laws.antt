@@ -6,6 +6,6 @@ use mathlib.Core.List.{List}
 use Rattle.arith.specs.Run.{zeros}
 use Rattle.render.specs.Answers.{answerOf}
 
--- a refused renderer answers its refusal "and eight zeros"
+-- rule 11.3: a refused renderer answers its refusal and eight zeros
 abbrev pub AnswerRefused : Type 0
 AnswerRefused = (r : ℕ) (cells : List ℕ) → (r ≡ 0 → ⊥) → answerOf r cells ≡ record { refusal = r; tallies = zeros 8 }

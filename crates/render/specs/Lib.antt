@@ -2,5 +2,5 @@ pub mod Windows
 pub mod Answers
 pub mod Laws
 pub mod Rows
-pub mod Demand
+pub mod Finished
 pub mod Marks

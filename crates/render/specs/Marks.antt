@@ -1,4 +1,4 @@
--- Small windows, small cases of demand 3 and the order of 8: proofs/AllMarks.antt shows them by computing the definitions.
+-- Small windows, small cases of rules 13.4 and 13.6, and the order of refusal 8: proofs/AllMarks.antt shows them by computing the definitions.
 -- Assumes nothing: these are statements.
 use Prim.Native.Nat.{ℕ}
 use mathlib.Core.Path.{_≡_}
@@ -12,7 +12,7 @@ use Rattle.separation.specs.Weights.{inksOf}
 use Rattle.render.specs.declared.Window.{Window}
 use Rattle.render.specs.Windows.{talliesOf}
 use Rattle.render.specs.Answers.{brickRefusal, rendering, rendered, brickRendering, brickRendered}
-use Rattle.render.specs.Demand.{Counted, bytesInSubscreen}
+use Rattle.render.specs.Finished.{Counted, bytesInSubscreen}
 
 -- A screen of four phases in two subscreens, a brick of 4 by 1, and a tint: phases 0, 2 and 3 are cyan, phase 1 is white.
 abbrev pub four : Screen
@@ -42,7 +42,7 @@ pub record Marks : Type 0 where
   pub written : rendered four Kueppers (along 4) input memory ≡ 0 ∷ 0 ∷ 7 ∷ 0 ∷ []
   pub answer : rendering four Kueppers (along 4) input memory ≡ record { refusal = 0; tallies = 3 ∷ 0 ∷ 0 ∷ 0 ∷ 0 ∷ 0 ∷ 0 ∷ 1 ∷ [] }
   pub tallied : talliesOf (0 ∷ 0 ∷ 7 ∷ 0 ∷ []) ≡ 3 ∷ 0 ∷ 0 ∷ 0 ∷ 0 ∷ 0 ∷ 0 ∷ 1 ∷ []
-  -- a wrong brick is refused as 8, eight zeros are answered, and the output stays as it was; a true one is not
+  -- a wrong brick is refused as 8, eight zeros are answered and nothing is written; a true one is not refused
   pub read : brickRendered four Kueppers (along 4) input brick memory ≡ 0 ∷ 0 ∷ 7 ∷ 0 ∷ []
   pub refused : brickRendering four Kueppers (along 4) input wrong memory ≡ record { refusal = 8; tallies = zeros 8 }
   pub untouched : brickRendered four Kueppers (along 4) input wrong memory ≡ memory

@@ -1,4 +1,4 @@
--- What the functions below the two renderers ask and promise. A row's functions know no screen, only how many cells it has and a table
+-- What the functions below the two renderers ask and promise (rules 7.6 and 7.7). A row's functions know no screen, only how many cells it has and a table
 -- with the thresholds of its phases; what they write is said by the rule, for the screen that the table is of.
 -- Assumes nothing: these are definitions.
 use Prim.Native.Nat.{ℕ, _+_, _*_, _≤_, _<_}
@@ -32,7 +32,7 @@ pub record TableOf (s : Screen) (n : ℕ) (table : List ℕ) : Type 0 where
 abbrev pub Table : ℕ → List ℕ → Type 0
 Table n table = (s : Screen) × TableOf s n table
 
--- a brick of n places in columns and rows, whatever numbers below n stand there
+-- a brick of n places in columns and rows, with any numbers below n in them
 pub record BrickLent (n : ℕ) (size : Brick) (brick : List ℕ) : Type 0 where
   pub wide : 0 < size .columns
   pub high : 0 < size .rows

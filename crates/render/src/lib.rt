@@ -1,4 +1,4 @@
-// The two renderers, and the cell of a lone place (document 01, 'Renderers and tally').
+// The two renderers, and the cell of a lone place (rules 7.1 to 7.8).
 mod bricks;
 mod cells;
 mod refusals;

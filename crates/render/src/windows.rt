@@ -6,7 +6,7 @@ ghost use Rattle.screen.specs.Phase.{phase};
 ghost use Rattle.screen.specs.Brick.{TrueBrick};
 ghost use Rattle.arith.specs.Run.{zeros};
 ghost use Rattle.render.specs.Answers.{rendering, rendered, brickRendering, brickRendered, loneCell};
-ghost use Rattle.render.specs.Demand.{Demand3};
+ghost use Rattle.render.specs.Finished.{FinishedWindow};
 ghost use Rattle.render.specs.Windows.{talliesOf};
 ghost use Rattle.render.specs.Rows.{TableOf, Table, BrickLent, numberRead, cellsBy, Cells, RowsLent};
 use crate::Cell;
@@ -26,7 +26,7 @@ use separation::Separation;
 pub fn render(s: Screen, sep: Separation, w: Window, input: &[u8], out: &mut [u8]) -> Rendering
     ensures answer { λ r. ⌜ r ≡ rendering s sep w (now (input .entry)) (now (out .entry)) ⌝ }
     ensures cells { λ _. ⌜ now (out .exit) ≡ rendered s sep w (now (input .entry)) (now (out .entry)) ⌝ }
-    ensures demand { λ r. ⌜ Demand3 s sep w (now (input .entry)) (length (now (out .entry))) r (now (out .exit)) ⌝ }
+    ensures finished { λ r. ⌜ FinishedWindow s sep w (now (input .entry)) (length (now (out .entry))) r (now (out .exit)) ⌝ }
 {
     let refused = window_refusal(s, w, input.len(), out.len());
     if refused != 0 {
@@ -56,7 +56,7 @@ pub fn render_brick(
 ) -> Rendering
     ensures answer { λ r. ⌜ r ≡ brickRendering s sep w (now (input .entry)) (now (brick .entry)) (now (out .entry)) ⌝ }
     ensures cells { λ _. ⌜ now (out .exit) ≡ brickRendered s sep w (now (input .entry)) (now (brick .entry)) (now (out .entry)) ⌝ }
-    ensures demand { λ r. ⌜ (TrueBrick s (now (brick .entry)) → Demand3 s sep w (now (input .entry)) (length (now (out .entry))) r (now (out .exit))) ⌝ }
+    ensures finished { λ r. ⌜ (TrueBrick s (now (brick .entry)) → FinishedWindow s sep w (now (input .entry)) (length (now (out .entry))) r (now (out .exit))) ⌝ }
 {
     let refused = window_refusal(s, w, input.len(), out.len());
     if refused != 0 {

@@ -52,7 +52,7 @@ fn main() {
     lone_places();
 }
 
-// The screens of document 01 and small ones, in one colour on whole bricks; and no ink.
+// The screens of rules 12.1 to 12.6 and small ones, in one colour on whole bricks; and no ink.
 fn patches() {
     let blue = values_of(128, 128, 0, 1);
     show_both(screen_of(4, 7, 105, 2, 0), window_of(0, 0, 105, 1), blue);

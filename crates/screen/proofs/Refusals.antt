@@ -45,7 +45,7 @@ module _ (s : Screen) where
         unfolding refusalOf
         admitted e = rw (slope, cells, subscreens, e)
 
--- ---- admitted, in the paper's words
+-- ---- admitted, by the limits of its numbers
 
 module _ (s : Screen) where
   pub limits-kept : Admitted s → Limits s

@@ -1,4 +1,4 @@
--- Document 01, 'Brick': its size and shift, its buffer, and where a place's phase stands in it.
+-- Rules 3.1 to 3.9: a brick's size and shift, its buffer, and where a place's phase stands in it.
 -- Assumes nothing: these are definitions.
 use Prim.Native.Nat.{ℕ, _+_, _*_, _/_, _%_, _≤_, _<_}
 use mathlib.Core.Path.{_≡_}
@@ -15,16 +15,16 @@ use Rattle.screen.specs.declared.bricks.Brick.{Brick}
 use Rattle.screen.specs.Screens.{refusalOf, Admitted}
 use Rattle.screen.specs.Phase.{phaseOf, phase}
 
--- "H is the greatest common divisor of a and N"
+-- rule 3.1: the rows H
 abbrev pub rowsOf : ℕ → ℕ → ℕ
 rowsOf a n = gcdOf a n
 
--- "L = N / H."
+-- rule 3.2: the columns L
 abbrev pub columnsOf : ℕ → ℕ → ℕ
 columnsOf a n = n / rowsOf a n
 
--- "The shift S is the only number in 0 to L − 1 for which a × S and b × H leave the same remainder by N."
--- The first such number; that there is exactly one is `ShiftOnly` (Laws.antt).
+-- Rule 3.3, the shift S: the first number below L that leads as far along a row as H rows lead down. That there is exactly one is
+-- `ShiftOnly` (Laws.antt).
 unfoldable pub shiftOf : ℕ → ℕ → ℕ → ℕ
 shiftOf a b n = firstBelow (columnsOf a n) (λ t. eqb (a * t % n) (b * rowsOf a n % n))
 
@@ -37,7 +37,7 @@ columns s = columnsOf (s .a) (s .n)
 abbrev pub shift : Screen → ℕ
 shift s = shiftOf (s .a) (s .b) (s .n)
 
--- what `brick_of` answers
+-- rule 3.5: what `brick_of` answers
 unfoldable pub brickOf : Screen → Brick
 brickOf s =
     record {
@@ -47,7 +47,7 @@ brickOf s =
       shift = answered (refusalOf s) (shift s);
     }
 
--- "place v × L + u holds the phase of (u, v), u below L and v below H": place i has u = i % L and v = i / L
+-- rule 3.6: place v × L + u of the buffer, so that place i has u = i % L and v = i / L
 abbrev pub phaseAtPlace : ℕ → ℕ → ℕ → ℕ → ℕ → ℕ
 phaseAtPlace a b n g i = phaseOf a b n g (i % columnsOf a n) (i / columnsOf a n)
 
@@ -55,22 +55,21 @@ phaseAtPlace a b n g i = phaseOf a b n g (i % columnsOf a n) (i / columnsOf a n)
 unfoldable pub brickPhases : Screen → List ℕ
 brickPhases s = upto (λ i. phaseAtPlace (s .a) (s .b) (s .n) (s .g) i) (s .n)
 
--- refusals of a brick buffer of the given length: 1 to 4, then 8, "brick buffer below N places"
+-- rules 11.4 and 11.12, refusals of a brick buffer of the given length: 1 to 4, then 8 for one that is too short
 unfoldable pub bufferRefusal : Screen → ℕ → ℕ
 bufferRefusal s places = orElse (refusalOf s) (unless (leb (s .n) places) 8 0)
 
--- what `fill_brick` leaves in a buffer: the phases, "and places from N on stay untouched"; all of it as it was where the call is refused
+-- rule 3.7, what `fill_brick` leaves in a buffer: the phases and, from place N on, what stood there; all of it as it was where the call is refused
 unfoldable pub filled : Screen → List ℕ → List ℕ
 filled s buffer = written (bufferRefusal s (length buffer)) (brickPhases s) buffer
 
--- "Its true brick is any brick buffer of at least N places whose first N hold the phases that the section on the brick
--- puts there; later places don't matter, and for a screen that isn't admitted any buffer serves."
+-- rule 3.8: a true brick; of a screen that is not admitted, every buffer
 abbrev pub TrueBrick : Screen → List ℕ → Type 0
 TrueBrick s buffer =
     Admitted s → (s .n ≤ length buffer) × ((u v : ℕ) → u < columns s → v < rows s → getD buffer (v * columns s + u) 0 ≡ phase s u v)
 
--- The place of (x, y) in a brick of so many columns and rows and such a shift, counted from the sheet's corner: row y mod H, column
--- x − S × (y div H) mod L.
+-- Rule 3.9: the place of (x, y) in a brick of so many columns and rows and such a shift, counted from the sheet's corner. It is in row
+-- y mod H and column (x − S × ⌊y / H⌋) mod L.
 unfoldable pub brickPlace : ℕ → ℕ → ℕ → ℕ → ℕ → ℕ
 brickPlace columns rows shift x y = y % rows * columns + remainderOf x (shift * (y / rows)) columns
 

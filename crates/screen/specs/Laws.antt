@@ -13,11 +13,11 @@ use Rattle.screen.specs.Brick.{rows, columns, shift, brickOf, bufferRefu
 
 -- ---- screen and phase
 
--- a screen is admitted exactly where its numbers keep the paper's limits
+-- rule 1.6: a screen is admitted exactly where its numbers keep the limits of rules 1.2 to 1.5
 abbrev pub AdmittedWords : Type 0
 AdmittedWords = (s : Screen) → (Admitted s → Limits s) × (Limits s → Admitted s)
 
--- the phase is 0 to N − 1
+-- rule 2.2: the phase is 0 to N − 1
 abbrev pub PhaseBelow : Type 0
 PhaseBelow = (s : Screen) → Admitted s → (x y : ℕ) → phase s x y < s .n
 
@@ -28,7 +28,7 @@ PhaseWords = (s : Screen) → Admitted s → (x y : ℕ) → (phase s x y + (s .
 abbrev pub PhaseOnly : Type 0
 PhaseOnly = (s : Screen) → Admitted s → (x y p : ℕ) → p < s .n → (p + (s .b * y + s .g)) % s .n ≡ s .a * x % s .n → p ≡ phase s x y
 
--- "Along a row it may be carried: add a, subtract N as often as needed": j columns on, j times a is added
+-- rule 2.3, the phase carried along a row: j columns on, j times a is added
 abbrev pub StepsRight : Type 0
 StepsRight = (s : Screen) → Admitted s → (x y j : ℕ) → phase s (x + j) y ≡ (phase s x y + s .a * j) % s .n
 
@@ -36,7 +36,7 @@ StepsRight = (s : Screen) → Admitted s → (x y j : ℕ) → phase s (x + j) y
 abbrev pub StepRight : Type 0
 StepRight = (s : Screen) → Admitted s → (x y : ℕ) → phase s (x + 1) y ≡ (phase s x y + s .a % s .n) % s .n
 
--- one row down, b is subtracted
+-- rule 2.3: one row down, b is taken off
 abbrev pub StepDown : Type 0
 StepDown = (s : Screen) → Admitted s → (x y : ℕ) → (phase s x (y + 1) + s .b) % s .n ≡ phase s x y
 
@@ -46,22 +46,22 @@ PlaceOnSheet = (s : Screen) → Admitted s → (x y : ℕ) → x < 65536 → y <
 
 -- ---- brick
 
--- a brick has N places, and at least one column and one row
+-- rule 3.2: a brick has N places, and at least one column and one row
 abbrev pub BrickSize : Type 0
 BrickSize = (s : Screen) → Admitted s → (0 < columns s) × (0 < rows s) × (rows s * columns s ≡ s .n)
 
--- the period along a row is L
+-- rule 3.4: the period along a row is L
 abbrev pub PeriodRight : Type 0
 PeriodRight = (s : Screen) → Admitted s → (x y : ℕ) → phase s (x + columns s) y ≡ phase s x y
 
--- "The shift S is the only number in 0 to L − 1 for which a × S and b × H leave the same remainder by N."
+-- rule 3.3: the shift is below L and leads as far along a row as H rows lead down, and no other number does
 abbrev pub ShiftWords : Type 0
 ShiftWords = (s : Screen) → Admitted s → (shift s < columns s) × (s .a * shift s % s .n ≡ s .b * rows s % s .n)
 
 abbrev pub ShiftOnly : Type 0
 ShiftOnly = (s : Screen) → Admitted s → (t : ℕ) → t < columns s → s .a * t % s .n ≡ s .b * rows s % s .n → t ≡ shift s
 
--- "the phase at (x + S, y + H) is that at (x, y)": of one place, and of all
+-- rule 3.4, the shift leads to the same phase H rows down: from one place, and from all
 abbrev pub Shifted : Screen → ℕ → ℕ → Type 0
 Shifted s x y = phase s (x + shift s) (y + rows s) ≡ phase s x y
 
@@ -72,11 +72,11 @@ ShiftLaw = (s : Screen) → Admitted s → (x y : ℕ) → Shifted s x y
 abbrev pub BrickAnswered : Type 0
 BrickAnswered = (s : Screen) → Admitted s → brickOf s ≡ record { refusal = 0; columns = columns s; rows = rows s; shift = shift s }
 
--- `fill_brick` makes a true brick
+-- rules 3.7 and 3.8: `fill_brick` makes a true brick
 abbrev pub FilledIsTrue : Type 0
 FilledIsTrue = (s : Screen) (buffer : List ℕ) → s .n ≤ length buffer → TrueBrick s (filled s buffer)
 
--- the phase of (x, y) is read from a true brick at `placeInBrick`, one of its first N places
+-- rule 3.9: the phase of (x, y) is read from a true brick at `placeInBrick`, one of its first N places
 abbrev pub ReadFromBrick : Type 0
 ReadFromBrick =
     (s : Screen) → Admitted s → (buffer : List ℕ) → TrueBrick s buffer → (x y : ℕ)
@@ -96,14 +96,14 @@ BufferRefused =
 unfoldable pub times : Screen → ℕ → ℕ → ℕ → ℕ → ℕ → ℕ
 times s x y w r p = sumBelow r (λ j. sumBelow w (λ i. indicator (eqb (phase s (x + i) (y + j)) p)))
 
--- in any L neighbouring columns by H neighbouring rows, wherever they begin, each phase occurs exactly once: one phase, and all
+-- a brick anywhere, L columns by H rows from some place on, has each phase exactly once: one phase, and all
 abbrev pub Once : Screen → ℕ → ℕ → ℕ → Type 0
 Once s x y p = times s x y (columns s) (rows s) p ≡ 1
 
 abbrev pub EachPhaseOnce : Type 0
 EachPhaseOnce = (s : Screen) → Admitted s → (x y p : ℕ) → p < s .n → Once s x y p
 
--- and in u × L columns by v × H rows exactly u × v times
+-- rule 13.2: and in u by v bricks exactly u × v times
 abbrev pub EachPhaseTimes : Type 0
 EachPhaseTimes =
     (s : Screen) → Admitted s → (x y u v p : ℕ) → p < s .n → times s x y (u * columns s) (v * rows s) p ≡ u * v

@@ -1,4 +1,4 @@
--- The starred marks of document 01 that speak of bricks and phases, and small cases of what the calls and the laws say.
+-- Rules 12.1 and 12.2, the worked examples of bricks and phases, and small cases of what the calls and the laws say.
 -- proofs/AllMarks.antt shows them by computing the definitions.
 -- Assumes nothing: these are statements.
 use Prim.Native.Nat.{ℕ}
@@ -10,11 +10,11 @@ use Rattle.screen.specs.Phase.{phaseOf, placeRefusal}
 use Rattle.screen.specs.Brick.{rowsOf, columnsOf, shiftOf, filled, placeInBrick}
 use Rattle.screen.specs.Laws.{Shifted, Once}
 
--- the screen of the counts program's listing
+-- the screen of rule 12.8's text
 abbrev pub listed : Screen
 listed = screenOf 4 7 105 2 0
 
--- the refusals' table: a = 4, b = 8
+-- rule 11.5's example: a = 4, b = 8
 abbrev pub sloped : Screen
 sloped = screenOf 4 8 105 2 0
 
@@ -27,13 +27,11 @@ abbrev pub BrickIs : ℕ → ℕ → ℕ → ℕ → ℕ → ℕ → Type 0
 BrickIs a b n l h s = (columnsOf a n ≡ l) × (rowsOf a n ≡ h) × (shiftOf a b n ≡ s)
 
 pub record Marks : Type 0 where
-  -- "4/7, N = 105: L = 105, H = 1, S = 28."
+  -- rule 12.1
   pub brick-105 : BrickIs 4 7 105 105 1 28
-  -- "N = 70: L = 35, H = 2, S = 21."
   pub brick-70 : BrickIs 4 7 70 35 2 21
-  -- "1/2, N = 1: 1, 1, 0."
   pub brick-1 : BrickIs 1 2 1 1 1 0
-  -- "4/7, N = 105, g = 0: phase of (0, 1) is 98, of (3, 2) is 103."
+  -- rule 12.2
   pub phase-98 : phaseOf 4 7 105 0 0 1 ≡ 98
   pub phase-103 : phaseOf 4 7 105 0 3 2 ≡ 103
   -- a brick of 2 columns and 2 rows, whose first phase is that of −g; the fifth place stays as it is

@@ -1,4 +1,4 @@
--- Document 01, 'Screen and phase', second paragraph: the phase of a place.
+-- Rules 2.1 to 2.4: the phase of a place.
 -- Assumes nothing: these are definitions.
 use Prim.Native.Nat.{ℕ, _+_, _*_}
 use Rattle.arith.specs.Remainder.{remainderOf}
@@ -8,17 +8,17 @@ use Rattle.screen.specs.declared.Screen.{Screen}
 use Rattle.screen.specs.declared.places.Place.{Place}
 use Rattle.screen.specs.Screens.{refusalOf}
 
--- "The phase of (x, y) is the remainder, 0 to N − 1, of a × x − b × y − g by N."
+-- rule 2.2: (a × x − b × y − g) mod N
 unfoldable pub phaseOf : ℕ → ℕ → ℕ → ℕ → ℕ → ℕ → ℕ
 phaseOf a b n g x y = remainderOf (a * x) (b * y + g) n
 
 abbrev pub phase : Screen → ℕ → ℕ → ℕ
 phase s x y = phaseOf (s .a) (s .b) (s .n) (s .g) x y
 
--- refusals of a lone place: 1 to 4, then 5, "a lone place is a 1 by 1 window"
+-- rules 11.4 and 11.9, refusals of a lone place: 1 to 4, then 5, the place being a window of 1 by 1
 unfoldable pub placeRefusal : Screen → ℕ → ℕ → ℕ
 placeRefusal s x y = orElse (refusalOf s) (unless (onSheet x y 1 1) 5 0)
 
--- what `phase_at` answers
+-- rule 2.4: what `phase_at` answers
 unfoldable pub placeOf : Screen → ℕ → ℕ → Place
 placeOf s x y = record { refusal = placeRefusal s x y; phase = answered (placeRefusal s x y) (phase s x y) }

@@ -1,4 +1,4 @@
--- Document 01, 'Screen and phase', first paragraph: which screens are admitted, and refusals 1 to 4.
+-- Rules 1.1 to 1.6: which screens are admitted, and refusals 1 to 4.
 -- Assumes nothing: these are definitions.
 use Prim.Native.Nat.{ℕ, _≤_, _<_}
 use mathlib.Core.Path.{_≡_}
@@ -8,38 +8,38 @@ use Rattle.arith.specs.Gcd.{gcdOf}
 use Rattle.arith.specs.Refusal.{unless}
 use Rattle.screen.specs.declared.Screen.{Screen}
 
--- "A screen is five whole numbers."
+-- rule 1.1: a screen by its five numbers
 abbrev pub screenOf : ℕ → ℕ → ℕ → ℕ → ℕ → Screen
 screenOf a b n k g = record { a = a; b = b; n = n; k = k; g = g }
 
--- "The slope is a/b with 1 ≤ a < b ≤ 64, a and b without a common divisor above 1."
+-- rule 1.2: the limits of a and b, which have no common divisor but 1
 unfoldable pub slopeAdmitted : ℕ → ℕ → Bool
 slopeAdmitted a b = leb 1 a && ltb a b && leb b 64 && eqb (gcdOf a b) 1
 
--- "N is the cell count, 1 to 4,096."
+-- rule 1.3: the cell count
 unfoldable pub cellsAdmitted : ℕ → Bool
 cellsAdmitted n = leb 1 n && leb n 4096
 
--- "K is the number of subscreens, 1 to 16 and at most N."
+-- rule 1.4: the number of subscreens
 unfoldable pub subscreensAdmitted : ℕ → ℕ → Bool
 subscreensAdmitted n k = leb 1 k && leb k 16 && leb k n
 
--- "The offset g is 0 to N − 1."
+-- rule 1.5: the offset
 unfoldable pub offsetAdmitted : ℕ → ℕ → Bool
 offsetAdmitted n g = ltb g n
 
--- refusals 1 to 4 of the table, the lowest that applies; 0 where none does
+-- rules 11.5 to 11.8: the lowest of the refusals 1 to 4 that applies; 0 where none does
 unfoldable pub refusalOf : Screen → ℕ
 refusalOf s =
     unless (slopeAdmitted (s .a) (s .b)) 1
     (unless (cellsAdmitted (s .n)) 2
     (unless (subscreensAdmitted (s .n) (s .k)) 3 (unless (offsetAdmitted (s .n) (s .g)) 4 0)))
 
--- "a screen is admitted where no refusal of the screen itself applies"
+-- rule 1.6: an admitted screen
 abbrev pub Admitted : Screen → Type 0
 Admitted s = refusalOf s ≡ 0
 
--- The paragraph's limits as facts. That they hold exactly for the admitted screens is `AdmittedWords` (Laws.antt).
+-- The limits of rules 1.2 to 1.5 as facts. That they hold exactly for the admitted screens is `AdmittedWords` (Laws.antt).
 pub record Limits (s : Screen) : Type 0 where
   pub slope-above : 1 ≤ s .a
   pub slope-below : s .a < s .b

@@ -1,5 +1,5 @@
 // Juxtaposed line screens: which screens are admitted, the phase of a place, and the brick of phases
-// that repeats over the sheet (document 01, 'Screen and phase' and 'Brick').
+// that repeats over the sheet (rules 1.1 to 3.9).
 mod bricks;
 mod places;
 

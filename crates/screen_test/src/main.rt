@@ -1,4 +1,4 @@
-// Prints what the calls of `screen` answer: the worked marks of document 01, and each limit of
+// Prints what the calls of `screen` answer: the worked examples of the rules, and each limit of
 // refusals 1 to 5 and 8 from both sides. The file stdout holds what this must print.
 use screen::Screen;
 

@@ -54,7 +54,7 @@ module _ (inks : Inks) (v : InkValues inks) where
   unfolding sumBelow scaleOf
   kueppers-adds-up = omega (arith, over-cyan, over-magenta)
 
--- ---- the sentence
+-- ---- the rule by the order of the values
 
 -- a statement of the six colorants of one ink and of two
 abbrev EachOfSix : (ℕ → Type 0) → Type 0
@@ -79,7 +79,7 @@ no-others : (inks : Inks) (single double : ℕ) → EachOfSix (Other inks single
     → (j : ℕ) → j < 8 → j ≢ 6 → j ≢ double → j ≢ single → j ≢ 7 → w inks j ≡ 0
 no-others inks s d p j h n6 nd ns n7 = rw (ne-eqb j d nd, ne-eqb j s ns) at (below-six (Other inks s d) p j (omega arith))
 
--- THE SENTENCE of document 01, for each of the six orders
+-- RULE 4.4 by the order of the values, for each of the six orders
 pub kueppers-words : KueppersWords
 unfolding weight
 kueppers-words inks v _ _ _ _ _ c-m-y p q = search (arith, no-others inks 2 5 (omega arith))

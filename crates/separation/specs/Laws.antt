@@ -12,17 +12,17 @@ use Rattle.separation.specs.declared.Separation.the-variants.{Kueppers}
 use Rattle.separation.specs.declared.Inks.{Inks}
 use Rattle.separation.specs.Weights.{full, weight, scaleOf}
 
--- "Ink values c, m, y are bytes, 255 being full": what the type of the three fields says
+-- rule 4.1: what the type of the three fields says
 pub record InkValues (inks : Inks) : Type 0 where
   pub c-value : inks .c ≤ full
   pub m-value : inks .m ≤ full
   pub y-value : inks .y ≤ full
 
--- "The eight weights add up to D"
+-- rule 4.5: the eight weights add up to the scale
 abbrev pub WeightsAddUp : Type 0
 WeightsAddUp = (sep : Separation) (inks : Inks) → InkValues inks → sumBelow 8 (weight sep inks) ≡ scaleOf sep
 
--- "D being odd"
+-- rule 5.3: the scale is odd
 abbrev pub ScaleOdd : Type 0
 ScaleOdd = (sep : Separation) → (0 < scaleOf sep) × (scaleOf sep % 2 ≡ 1)
 
@@ -32,8 +32,8 @@ ScaleOdd = (sep : Separation) → (0 < scaleOf sep) × (scaleOf sep % 2 ≡ 1)
 abbrev pub value : Inks → ℕ → ℕ
 value inks i = getD (inks .c ∷ inks .m ∷ inks .y ∷ []) i 0
 
--- The six orders of the inks from least to largest, each with the single-ink colorant of the largest and the colorant of the
--- two larger inks.
+-- The six orders of the inks, the one of the least value first, each with the colorant that holds the last ink alone and the one that
+-- holds the last two.
 pub data Order : ℕ → ℕ → ℕ → ℕ → ℕ → Type 0 where
   c-m-y : Order 0 1 2 2 5
   c-y-m : Order 0 2 1 1 5
@@ -42,8 +42,8 @@ pub data Order : ℕ → ℕ → ℕ → ℕ → ℕ → Type 0 where
   y-c-m : Order 2 0 1 1 3
   y-m-c : Order 2 1 0 0 3
 
--- "black gets the least value, the colorant of the two larger inks the middle minus the least, the single-ink colorant of the
--- largest the largest minus the middle, white 255 minus the largest." No other colorant gets anything.
+-- Rule 4.4 for values in an order: what black, the colorant of the last two inks, that of the last alone and white have, and that the
+-- other four have 0.
 pub record KueppersSentence (inks : Inks) (least middle largest single double : ℕ) : Type 0 where
   pub black : weight Kueppers inks 6 ≡ value inks least
   pub two-larger : weight Kueppers inks double ≡ value inks middle - value inks least
@@ -51,7 +51,7 @@ pub record KueppersSentence (inks : Inks) (least middle largest single double : 
   pub white : weight Kueppers inks 7 ≡ full - value inks largest
   pub no-other : (j : ℕ) → j < 8 → j ≢ 6 → j ≢ double → j ≢ single → j ≢ 7 → weight Kueppers inks j ≡ 0
 
--- Equal values may be put in either order: "Equal values make the doubtful weight 0."
+-- and this for every order that the values have, equal ones either way
 abbrev pub KueppersWords : Type 0
 KueppersWords =
     (inks : Inks) → InkValues inks → (least middle largest single double : ℕ) → Order least middle largest single double

@@ -1,4 +1,4 @@
--- Weights of two ink triples of document 01. proofs/AllMarks.antt shows them by computing the definitions.
+-- Weights of the ink values of rules 12.3 and 12.5. proofs/AllMarks.antt shows them by computing the definitions.
 -- Assumes nothing: these are statements.
 use mathlib.Core.Path.{_≡_}
 use mathlib.Core.List.{[], _∷_}
@@ -7,16 +7,16 @@ use Rattle.separation.specs.declared.Inks.{Inks}
 use Rattle.separation.specs.Weights.{inksOf, weight, weightsOf}
 use Rattle.separation.specs.Laws.{KueppersWords}
 
--- the ink values of the first P of the counts program's listing
+-- the ink values of rule 12.3
 abbrev pub half : Inks
 half = inksOf 128 128 0
 
--- cyan the least, yellow the largest
+-- those of rule 12.5: cyan the least, yellow the largest
 abbrev pub rising : Inks
 rising = inksOf 51 102 204
 
 pub record Marks : Type 0 where
   pub demichel : weightsOf Demichel half ≡ 4145280 ∷ 4145280 ∷ 0 ∷ 4177920 ∷ 0 ∷ 0 ∷ 0 ∷ 4112895 ∷ []
   pub kueppers : weightsOf Kueppers rising ≡ 0 ∷ 0 ∷ 102 ∷ 0 ∷ 0 ∷ 51 ∷ 51 ∷ 51 ∷ []
-  -- what the law of document 01's words says of red
+  -- what the law by the order of the values says of red
   pub words-law : KueppersWords → weight Kueppers rising 5 ≡ 51

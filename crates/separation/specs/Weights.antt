@@ -1,4 +1,4 @@
--- Document 01, 'Separation'.
+-- Rules 4.1 to 4.5: the weights of the eight colorants.
 -- Assumes nothing: these are definitions.
 use Prim.Native.Nat.{ℕ, _-_, _*_, min, max}
 use mathlib.Core.Bool.{Bool, true, false, cond}
@@ -9,7 +9,7 @@ use Rattle.separation.specs.declared.Separation.{Separation}
 use Rattle.separation.specs.declared.Separation.the-variants.{Demichel, Kueppers}
 use Rattle.separation.specs.declared.Inks.{Inks}
 
--- "Ink values c, m, y are bytes, 255 being full."
+-- rule 4.1: the value of a full ink
 abbrev pub full : ℕ
 full = 255
 
@@ -17,8 +17,7 @@ full = 255
 abbrev pub inksOf : ℕ → ℕ → ℕ → Inks
 inksOf c m y = record { c = c; m = m; y = y }
 
--- "Colorants are numbered 0 cyan, 1 magenta, 2 yellow, 3 blue (c, m), 4 green (c, y), 5 red (m, y), 6 black (c, m, y),
--- 7 white (no ink; silver on our press). A small fixed table says which of the three inks each colorant holds."
+-- rule 4.2: which of the inks c, m and y each colorant holds, by its number
 abbrev pub table : List (List Bool)
 table =
     (true ∷ false ∷ false ∷ [])
@@ -40,12 +39,12 @@ rowOf j = getD table j []
 abbrev pub overInks : (ℕ → ℕ → ℕ) → (Bool → ℕ → ℕ) → List Bool → Inks → ℕ
 overInks op f row inks = op (f (getD row 0 false) (inks .c)) (op (f (getD row 1 false) (inks .m)) (f (getD row 2 false) (inks .y)))
 
--- "Demichel: a colorant's weight is the product over the three inks of the value if held, else 255 minus it."
+-- rule 4.3: the product of an ink's value where it is held, and of what is left of it to full where it is not
 unfoldable pub demichelWeight : List Bool → Inks → ℕ
 demichelWeight row inks = overInks _*_ (λ held v. cond held v (full - v)) row inks
 
--- Kueppers: the least value that a colorant holds (full where it holds none) minus the greatest that it does not (0 where it
--- holds all), and 0 where that is below 0. `KueppersWords` (Laws.antt) says it as document 01 does, by the order of the values.
+-- Rule 4.4, its last sentence: the least value held (full where none is) less the largest not held (0 where all are), and 0 where that is
+-- negative. `KueppersWords` (Laws.antt) says the rule's other sentences of it, by the order of the values.
 unfoldable pub kueppersWeight : List Bool → Inks → ℕ
 kueppersWeight row inks =
     overInks min (λ held v. cond held v full) row inks - overInks max (λ held v. cond held 0 v) row inks
@@ -59,7 +58,7 @@ weight Kueppers inks j = kueppersWeight (rowOf j) inks
 unfoldable pub weightsOf : Separation → Inks → List ℕ
 weightsOf sep inks = upto (weight sep inks) 8
 
--- "D = 255 × 255 × 255." and, of Kueppers, "D = 255."
+-- rules 4.3 and 4.4: the scale D
 unfoldable pub scaleOf : Separation → ℕ
 scaleOf Demichel = full * full * full
 scaleOf Kueppers = full

@@ -1,5 +1,4 @@
-// Separations: how much of each of the eight colorants three ink values call for (document 01,
-// 'Separation').
+// Separations: how much of each of the eight colorants three ink values call for (rules 4.1 to 4.5).
 ghost use mathlib.Core.Path.{_≡_};
 ghost use mathlib.Core.Bool.{cond};
 ghost use Prim.Native.Nat.{_-_, _≤_, _<_, min, max};
@@ -44,7 +43,7 @@ pub fn weights(sep: Separation, inks: Inks) -> [u64; 8]
     of
 }
 
-// D, which the eight weights add up to.
+// The scale D, the sum of the eight weights.
 pub fn scale(sep: Separation) -> u64
     ensures { λ r. ⌜ r ≡ scaleOf sep ⌝ }
 {
@@ -66,7 +65,7 @@ fn weight(sep: Separation, inks: Inks, j: usize) -> u64
     }
 }
 
-// The product over the three inks of the value if held, else what is left of it to full.
+// The product of three factors, one for each ink.
 fn demichel(held: [bool; 3], inks: Inks) -> u64
     ensures { λ r. ⌜ r ≡ demichelWeight held inks ⌝ }
 {

@@ -1,4 +1,4 @@
-//! Brick.
+//! Rules 3.1 to 3.8: the brick and its buffer.
 
 use crate::screen::{phase, screen_refusal, Screen};
 
@@ -11,7 +11,7 @@ pub struct Brick {
     pub shift: u32,
 }
 
-/// The greatest common divisor by Euclid's rule, each step falling back on the smaller remainder.
+/// The greatest common divisor, by Euclid (rule 3.1).
 fn greatest_common_divisor(first: u32, second: u32) -> u32 {
     if second == 0 {
         first
@@ -20,7 +20,7 @@ fn greatest_common_divisor(first: u32, second: u32) -> u32 {
     }
 }
 
-/// The shift S: the only number in 0 to L − 1 for which a × S and b × H leave the same remainder by N.
+/// The shift S, from 0 to L − 1: a × S mod N is b × H mod N (rule 3.3).
 fn shift(s: Screen, columns: u32, rows: u32) -> u32 {
     (0..columns)
         .find(|shift| (s.a * shift) % s.n == (s.b * rows) % s.n)
@@ -39,7 +39,7 @@ pub fn brick_of(s: Screen) -> Brick {
     }
 }
 
-/// The N numbers that an admitted screen's brick buffer holds: place v × L + u has the phase of (u, v).
+/// The N numbers that an admitted screen's brick buffer holds, row by row of the brick (rule 3.6).
 pub(crate) fn true_brick(s: Screen) -> Vec<u16> {
     let brick = brick_of(s);
     let mut places = Vec::new();
@@ -51,7 +51,7 @@ pub(crate) fn true_brick(s: Screen) -> Vec<u16> {
     places
 }
 
-/// Fills the first N places of a brick buffer, or answers why it is refused.
+/// Fills the first N places of a brick buffer, or answers why it is refused (rule 3.7).
 pub fn fill_brick(s: Screen, brick: &mut [u16]) -> u32 {
     let refusal = screen_refusal(s);
     if refusal != 0 {

@@ -1,4 +1,4 @@
-//! Counts program.
+//! Rules 10.1 to 10.8: the counts program.
 
 use crate::quantise::counts;
 use crate::screen::{screen_refusal, Screen};
@@ -7,16 +7,17 @@ use crate::separation::{Inks, Separation};
 /// The byte that ends each line.
 const END: u8 = 10;
 
-/// The byte that parts fields.
+/// The byte between two fields.
 const TAB: u8 = 9;
 
 /// A bad line: its number and its refusal.
 type BadLine = (usize, u32);
 
-/// A P line: a separation and three ink values.
+/// What a P line asks for: a separation and ink values.
 type Patch = (Separation, Inks);
 
-/// What the program writes for what it reads: a C line for each P line, or an E line alone.
+/// What the program writes for what it reads: a C line for each P line (rule 10.6), or an E line alone
+/// (rule 10.7).
 pub fn counts_program(input: &[u8]) -> Vec<u8> {
     match judge(input) {
         Ok((screen, patches)) => patches.iter().flat_map(|patch| answer(screen, *patch)).collect(),
@@ -34,7 +35,8 @@ fn answer(screen: Screen, (separation, inks): Patch) -> Vec<u8> {
     line.into_bytes()
 }
 
-/// Judges all lines in order: the screen and the patches, or the first bad line.
+/// Judges all lines in order: the screen and the patches, or the first bad line (rules 10.7 and 10.8). A
+/// line that is missing is judged as an empty one without its end.
 fn judge(input: &[u8]) -> Result<(Screen, Vec<Patch>), BadLine> {
     if input.len() > 65_536 {
         return Err((0, 10));
@@ -51,7 +53,7 @@ fn judge(input: &[u8]) -> Result<(Screen, Vec<Patch>), BadLine> {
     Ok((screen, patches))
 }
 
-/// The fields of a line, parted by one tab; none where the line is missing or unended.
+/// The fields of a line, or none where no byte 10 ends it (rule 10.2).
 fn fields(line: &[u8]) -> Option<Vec<&[u8]>> {
     match line {
         [text @ .., END] => Some(text.split(|byte| *byte == TAB).collect()),
@@ -59,7 +61,7 @@ fn fields(line: &[u8]) -> Option<Vec<&[u8]>> {
     }
 }
 
-/// A number of 1 to 5 digits, without a leading zero except 0 itself.
+/// A number: 1 to 5 digits, and no 0 in front of others (rule 10.5).
 fn number(field: &[u8]) -> Option<u32> {
     let digits = field.iter().all(u8::is_ascii_digit);
     let leading_zero = field.len() > 1 && field[0] == b'0';
@@ -69,7 +71,7 @@ fn number(field: &[u8]) -> Option<u32> {
     Some(field.iter().fold(0, |value, digit| 10 * value + u32::from(digit - b'0')))
 }
 
-/// The screen of line 1: the letter S, then a, b, N, K, g; its form is tested before 1 to 4.
+/// The screen of line 1, or its refusal: 10 for the form, and only then 1 to 4 (rule 10.8).
 fn read_screen(line: &[u8]) -> Result<Screen, u32> {
     let screen = screen_of(line).ok_or(10u32)?;
     match screen_refusal(screen) {
@@ -78,7 +80,7 @@ fn read_screen(line: &[u8]) -> Result<Screen, u32> {
     }
 }
 
-/// The five numbers of an S line of the stated form.
+/// The five numbers of a line 1 that has its form (rule 10.3).
 fn screen_of(line: &[u8]) -> Option<Screen> {
     let [b"S", a, b, n, k, g] = fields(line)?[..] else {
         return None;
@@ -86,7 +88,7 @@ fn screen_of(line: &[u8]) -> Option<Screen> {
     Some(Screen { a: number(a)?, b: number(b)?, n: number(n)?, k: number(k)?, g: number(g)? })
 }
 
-/// The patch of a P line of the stated form: P, `demichel` or `kueppers`, c, m, y.
+/// The patch of a P line that has its form (rule 10.4).
 fn read_patch(line: &[u8]) -> Option<Patch> {
     let [b"P", name, c, m, y] = fields(line)?[..] else {
         return None;
@@ -99,7 +101,7 @@ fn read_patch(line: &[u8]) -> Option<Patch> {
     Some((separation, [ink(c)?, ink(m)?, ink(y)?]))
 }
 
-/// An ink value: a number of at most 255.
+/// An ink value: a number up to 255.
 fn ink(field: &[u8]) -> Option<u8> {
     number(field)?.try_into().ok()
 }

@@ -1,8 +1,8 @@
 //! A plain second implementation of Cavzemil's rules.
 //!
-//! Each module follows one section of document 01, sentence by sentence and without any
-//! haste: a reader compares the two side by side. It shares no line with the proved library, which is
-//! compared with it and whose speed is measured against it.
+//! Each module names the rules of `docs/RULES.md` that it follows, one by one and without any haste: a reader
+//! compares the two side by side. It shares no line with the proved library, which is compared with it and
+//! whose speed is measured against it.
 //!
 //! Every call of the C interface is here under its own name, in Rust's types but with the same numbers:
 //! an answer holds its refusal, 0 where there is none, and a separation is handed over as a number.
@@ -26,5 +26,9 @@ pub use render::{cell_at, render, render_brick, Cell, Rendering, Window};
 pub use screen::{phase, phase_at, screen_refusal, Place, Screen};
 pub use separation::{scale, weights, Inks, Separation};
 
-/// The refusal of a separation that is neither 0 (Demichel) nor 1 (Kueppers), tested before all else.
+/// The number of the rules that this implementation is written from (rule 14.1).
+pub const RULES: u32 = 0;
+
+/// The refusal of a separation that is neither 0 (Demichel) nor 1 (Kueppers), tested before all else
+/// (rule 14.3).
 pub const NO_SUCH_SEPARATION: u32 = 100;

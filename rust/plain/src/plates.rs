@@ -1,16 +1,16 @@
-//! Plates.
+//! Rules 8.1 to 8.8: plates.
 
 use crate::screen::SHEET;
 
-/// Pixel x of a row is the bit mask at x mod 8.
+/// The masks of the bits of a byte, by x mod 8 (rule 8.3).
 const MASKS: [u8; 8] = [128, 64, 32, 16, 8, 4, 2, 1];
 
-/// The bytes of a plane's row: W / 8 rounded up.
+/// The bytes of a plane's row: as many as W bits need (rule 8.1).
 fn row_bytes(columns: u32) -> u64 {
     u64::from(columns).div_ceil(8)
 }
 
-/// The bytes of the eight planes, each R rows of W / 8 rounded up bytes.
+/// The bytes of all eight planes.
 fn plates_length(columns: u32, rows: u32) -> u64 {
     8 * u64::from(rows) * row_bytes(columns)
 }
@@ -34,7 +34,7 @@ fn plane_byte(columns: u32, rows: u32, colorant: usize, x: u32, y: u32) -> usize
     (colorant * rows as usize + y as usize) * row + x as usize / 8
 }
 
-/// Packs colorant bytes into eight planes, or answers why they are refused.
+/// Packs colorant bytes into eight planes, or answers why they are refused (rule 8.5).
 pub fn pack(columns: u32, rows: u32, cells: &[u8], planes: &mut [u8]) -> u32 {
     let stated = u64::from(columns) * u64::from(rows);
     let refusal = length_refusal(columns, rows, (cells, stated), (planes, plates_length(columns, rows)));
@@ -66,7 +66,8 @@ fn planes_set(columns: u32, rows: u32, planes: &[u8], x: u32, y: u32) -> impl It
     (0..8).filter(move |colorant| bit_set(columns, rows, planes, usize::from(*colorant), x, y))
 }
 
-/// The colorant bytes of planes, or none where a pixel isn't in exactly one plane or padding is set.
+/// The colorant bytes of planes, or none where a pixel is set in no plane or in several, or padding is set
+/// (rule 11.13).
 fn read_planes(columns: u32, rows: u32, planes: &[u8]) -> Option<Vec<u8>> {
     let mut cells = Vec::new();
     for y in 0..rows {
@@ -83,7 +84,7 @@ fn read_planes(columns: u32, rows: u32, planes: &[u8]) -> Option<Vec<u8>> {
     Some(cells)
 }
 
-/// Unpacks eight planes into colorant bytes, or answers why they are refused.
+/// Unpacks eight planes into colorant bytes, or answers why they are refused (rule 8.6).
 pub fn unpack(columns: u32, rows: u32, planes: &[u8], cells: &mut [u8]) -> u32 {
     let stated = u64::from(columns) * u64::from(rows);
     let refusal = length_refusal(columns, rows, (planes, plates_length(columns, rows)), (cells, stated));

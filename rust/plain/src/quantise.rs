@@ -1,4 +1,4 @@
-//! Quantised counts and subscreens.
+//! Rules 5.1 to 5.5 and rules 6.1 to 6.3: counts and subscreens.
 
 use crate::screen::{screen_refusal, Screen};
 use crate::separation::{scale, weights, Inks, Separation};
@@ -11,7 +11,7 @@ pub struct Counts {
     pub of: [u32; 8],
 }
 
-/// C(0) to C(7): C(j) = (2 × N × A(j) + D) / (2 × D) rounded down, A(j) the sum of weights 0 to j.
+/// The running sums C(0) to C(7), each ⌊(2 × N × A(j) + D) / (2 × D)⌋ (rules 5.1 and 5.2).
 pub fn running_counts(n: u32, separation: Separation, inks: Inks) -> [u64; 8] {
     let weights = weights(separation, inks);
     let d = scale(separation);
@@ -24,7 +24,7 @@ pub fn running_counts(n: u32, separation: Separation, inks: Inks) -> [u64; 8] {
     running
 }
 
-/// The counts of an admitted screen: C(j) minus C(j − 1), C before 0 being 0.
+/// The counts of an admitted screen: what C rises by from colorant to colorant (rule 5.4).
 pub(crate) fn counts(n: u32, separation: Separation, inks: Inks) -> [u32; 8] {
     let running = running_counts(n, separation, inks);
     let mut counts = [0; 8];
@@ -35,7 +35,7 @@ pub(crate) fn counts(n: u32, separation: Separation, inks: Inks) -> [u32; 8] {
     counts
 }
 
-/// The counts of three ink values, or why they are refused.
+/// The counts of three ink values, or why they are refused (rule 5.5).
 pub fn counts_of(s: Screen, separation: u32, inks: Inks) -> Counts {
     let Some(separation) = Separation::from_number(separation) else {
         return Counts { refusal: NO_SUCH_SEPARATION, of: [0; 8] };
@@ -46,13 +46,12 @@ pub fn counts_of(s: Screen, separation: u32, inks: Inks) -> Counts {
     }
 }
 
-/// The cells of subscreen k: (N + k) / K rounded down.
+/// The cells of subscreen k, ⌊(N + k) / K⌋ (rule 6.1).
 pub fn cells_of_subscreen(s: Screen, k: u32) -> u32 {
     (s.n + k) / s.k
 }
 
-/// The subscreen that a phase falls in and its distance from that subscreen's start; the subscreens
-/// follow each other from phase 0.
+/// The subscreen k of a phase, and its distance q from the first phase of k (rule 6.2).
 pub fn subscreen_of(s: Screen, phase: u32) -> (u32, u32) {
     let mut k = 0;
     let mut start = 0;
@@ -63,8 +62,7 @@ pub fn subscreen_of(s: Screen, phase: u32) -> (u32, u32) {
     (k, phase - start)
 }
 
-/// The colorant of a cell in k at distance q from its start: the first j for which q is below
-/// (C(j) + k) / K rounded down.
+/// The colorant of a phase: the first j for which q < ⌊(C(j) + k) / K⌋ (rule 6.3).
 pub(crate) fn colorant(s: Screen, separation: Separation, inks: Inks, phase: u32) -> u8 {
     let running = running_counts(s.n, separation, inks);
     let (k, q) = subscreen_of(s, phase);

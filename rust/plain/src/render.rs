@@ -1,4 +1,4 @@
-//! Renderers and tally.
+//! Rules 7.1 to 7.8: the renderers, and rule 3.9: how a brick is read.
 
 use crate::brick::{brick_of, true_brick, Brick};
 use crate::quantise::colorant;
@@ -6,7 +6,7 @@ use crate::screen::{phase, place_refusal, screen_refusal, Screen, SHEET};
 use crate::separation::{Inks, Separation};
 use crate::NO_SUCH_SEPARATION;
 
-/// A window is its corner X, Y, and its columns W and rows R, which may be 0.
+/// A window: its corner X, Y, and its columns W and rows R, which may be 0 (rule 7.1).
 #[derive(Clone, Copy, Debug, PartialEq, Eq)]
 pub struct Window {
     pub x: u32,
@@ -29,7 +29,7 @@ pub struct Rendering {
     pub tallies: [u64; 8],
 }
 
-/// The colorant at (x, y) for three ink values, or why it is refused.
+/// The colorant at (x, y) for three ink values, or why it is refused (rule 7.8).
 pub fn cell_at(s: Screen, separation: u32, x: u32, y: u32, inks: Inks) -> Cell {
     let Some(separation) = Separation::from_number(separation) else {
         return Cell { refusal: NO_SUCH_SEPARATION, colorant: 0 };
@@ -58,8 +58,8 @@ fn render_refusal(s: Screen, w: Window, input: &[u8], out: &[u8]) -> u32 {
     }
 }
 
-/// Writes the colorant of every cell, each pixel separated with its own values and each phase asked for
-/// by place, and counts the cells written in each colorant.
+/// Writes the colorant of every cell, by the pixel's own ink values and the phase that is asked for by place
+/// (rule 7.3), and tallies what it writes (rule 7.4).
 fn write_cells(
     s: Screen,
     separation: Separation,
@@ -82,7 +82,7 @@ fn write_cells(
     Rendering { refusal: 0, tallies }
 }
 
-/// Renders a window with phases worked out, or answers why it is refused.
+/// Renders a window with phases worked out, or answers why it is refused (rule 7.5).
 pub fn render(s: Screen, separation: u32, w: Window, input: &[u8], out: &mut [u8]) -> Rendering {
     let Some(separation) = Separation::from_number(separation) else {
         return Rendering { refusal: NO_SUCH_SEPARATION, ..Rendering::default() };
@@ -93,8 +93,8 @@ pub fn render(s: Screen, separation: u32, w: Window, input: &[u8], out: &mut [u8
     }
 }
 
-/// The place of the brick buffer that serves (x, y): the phase at (x + S, y + H) is that at (x, y), and
-/// a row repeats after L columns.
+/// The place of the brick buffer that serves (x, y), columns and rows counted from the sheet's corner
+/// (rule 3.9).
 fn brick_place(brick: Brick, x: u32, y: u32) -> usize {
     let bricks_down = i64::from(y / brick.rows);
     let unshifted = i64::from(x) - bricks_down * i64::from(brick.shift);
@@ -103,12 +103,12 @@ fn brick_place(brick: Brick, x: u32, y: u32) -> usize {
     v * brick.columns as usize + u
 }
 
-/// Whether a brick buffer has at least N places and its first N hold the phases due there.
+/// Whether a brick buffer is a true brick of an admitted screen (rule 3.8).
 fn brick_is_true(s: Screen, brick: &[u16]) -> bool {
     brick.len() >= s.n as usize && brick[..s.n as usize] == true_brick(s)[..]
 }
 
-/// Renders a window with phases read from the brick buffer, or answers why it is refused.
+/// Renders a window with phases read from the brick buffer, or answers why it is refused (rule 7.6).
 pub fn render_brick(
     s: Screen,
     separation: u32,

@@ -1,7 +1,6 @@
-//! Screen and phase.
+//! Rules 1.1 to 1.6 and rules 2.1 to 2.4: the screen and the phase.
 
-/// A screen is five whole numbers: the slope a/b, the cell count N, the number of subscreens K and the
-/// offset g.
+/// A screen: the slope a/b, the cell count N, the number of subscreens K and the offset g (rule 1.1).
 #[derive(Clone, Copy, Debug, PartialEq, Eq)]
 pub struct Screen {
     pub a: u32,
@@ -18,7 +17,7 @@ pub struct Place {
     pub phase: u32,
 }
 
-/// The columns, and the rows, of the sheet: 0 to 65,535.
+/// The columns, and the rows, of the sheet (rule 2.1).
 pub(crate) const SHEET: u64 = 65_536;
 
 /// Whether some number above 1 divides both a and b.
@@ -26,12 +25,12 @@ fn common_divisor_above_one(a: u32, b: u32) -> bool {
     (2..=a).any(|divisor| a.is_multiple_of(divisor) && b.is_multiple_of(divisor))
 }
 
-/// Whether 1 ≤ a < b ≤ 64, a and b without a common divisor above 1.
+/// Whether a slope is admitted (rule 1.2).
 fn slope_admitted(a: u32, b: u32) -> bool {
     1 <= a && a < b && b <= 64 && !common_divisor_above_one(a, b)
 }
 
-/// The lowest of the refusals 1 to 4 that applies to a screen, or 0.
+/// The lowest of the refusals 1 to 4 that applies to a screen, or 0 where it is admitted (rule 1.6).
 pub fn screen_refusal(s: Screen) -> u32 {
     if !slope_admitted(s.a, s.b) {
         1
@@ -46,7 +45,7 @@ pub fn screen_refusal(s: Screen) -> u32 {
     }
 }
 
-/// The phase of (x, y): the remainder, 0 to N − 1, of a × x − b × y − g by N.
+/// The phase of (x, y): (a × x − b × y − g) mod N (rule 2.2).
 pub fn phase(s: Screen, x: u32, y: u32) -> u32 {
     let along = i64::from(s.a) * i64::from(x);
     let across = i64::from(s.b) * i64::from(y);
@@ -54,7 +53,7 @@ pub fn phase(s: Screen, x: u32, y: u32) -> u32 {
     value.rem_euclid(i64::from(s.n)) as u32
 }
 
-/// The lowest refusal of a lone place, which is a 1 by 1 window.
+/// The lowest refusal of a lone place, which is judged as a window of one cell (rule 11.9).
 pub(crate) fn place_refusal(s: Screen, x: u32, y: u32) -> u32 {
     let refusal = screen_refusal(s);
     if refusal != 0 {
@@ -66,7 +65,7 @@ pub(crate) fn place_refusal(s: Screen, x: u32, y: u32) -> u32 {
     }
 }
 
-/// The phase of (x, y), or why it is refused.
+/// The phase of (x, y), or why it is refused (rule 2.4).
 pub fn phase_at(s: Screen, x: u32, y: u32) -> Place {
     match place_refusal(s, x, y) {
         0 => Place { refusal: 0, phase: phase(s, x, y) },

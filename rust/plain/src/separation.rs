@@ -1,6 +1,6 @@
-//! Separation.
+//! Rules 4.1 to 4.5: separation.
 
-/// Ink values c, m, y; 255 is full.
+/// Ink values, 255 being full: cyan, magenta, yellow (rule 4.1).
 pub type Inks = [u8; 3];
 
 /// How ink values become the weights of the eight colorants.
@@ -10,8 +10,8 @@ pub enum Separation {
     Kueppers,
 }
 
-/// Which of the three inks c, m, y each colorant holds: cyan, magenta, yellow, blue, green, red, black,
-/// white.
+/// Which of the inks c, m, y each colorant holds: cyan, magenta, yellow, blue, green, red, black, white
+/// (rule 4.2).
 const HOLDS: [[bool; 3]; 8] = [
     [true, false, false],
     [false, true, false],
@@ -24,7 +24,7 @@ const HOLDS: [[bool; 3]; 8] = [
 ];
 
 impl Separation {
-    /// The separation that the C interface gives this number, if there is one.
+    /// The separation that the C interface gives this number, if there is one (rule 14.3).
     pub fn from_number(number: u32) -> Option<Separation> {
         match number {
             0 => Some(Separation::Demichel),
@@ -34,7 +34,7 @@ impl Separation {
     }
 }
 
-/// D, to which the eight weights add up.
+/// The scale D, to which the eight weights add up (rule 4.5).
 pub fn scale(separation: Separation) -> u64 {
     match separation {
         Separation::Demichel => 255 * 255 * 255,
@@ -50,7 +50,7 @@ pub fn weights(separation: Separation, inks: Inks) -> [u64; 8] {
     }
 }
 
-/// Demichel: the product over the three inks of the value if held, else 255 minus it.
+/// Demichel's weights: a product of three factors, one for each ink (rule 4.3).
 fn demichel(inks: Inks) -> [u64; 8] {
     let mut weights = [0; 8];
     for colorant in 0..8 {
@@ -64,9 +64,8 @@ fn demichel(inks: Inks) -> [u64; 8] {
     weights
 }
 
-/// Kueppers: black gets the least value, the colorant of the two larger inks the middle minus the least,
-/// the single-ink colorant of the largest the largest minus the middle, white 255 minus the largest.
-/// Equal values make the doubtful weight 0, so that their order doesn't matter.
+/// Kueppers's weights, by the order of the three values; it doesn't matter how equal values are ordered
+/// (rule 4.4).
 fn kueppers(inks: Inks) -> [u64; 8] {
     let mut order = [0, 1, 2];
     order.sort_by_key(|ink| inks[*ink]);

@@ -1,4 +1,4 @@
-//! The plain implementation by itself: the worked marks, demand 3, and the counts program's texts.
+//! The plain implementation by itself: the worked examples, finished windows, and the counts program's texts.
 
 mod promises;
 mod texts;
@@ -7,6 +7,13 @@ mod texts;
 mod subject {
     pub use cavzemil_plain::{brick_of, cell_at, counts_of, fill_brick, pack, phase_at, predict};
     pub use cavzemil_plain::{render, render_brick, unpack};
+}
+
+/// The weights of rule 12.3.
+#[test]
+fn weights_are_the_worked_ones() {
+    let weights = cavzemil_plain::weights(cavzemil_plain::Separation::Demichel, [128, 128, 0]);
+    assert_eq!(weights, [4_145_280, 4_145_280, 0, 4_177_920, 0, 0, 0, 4_112_895]);
 }
 
 #[test]

@@ -1,4 +1,4 @@
-//! Counts and lone cells.
+//! Counts and lone cells (rules 5.5 and 7.8).
 
 use crate::case::{
     compare, differing, screen_words, separation_words, smaller_numbers, smaller_screens, Case, Mismatch,

@@ -1,4 +1,4 @@
-//! Predicted colours, compared bit by bit.
+//! Predicted colours, compared bit by bit (rules 9.1 to 9.5).
 
 use crate::case::{
     compare, differing, screen_words, separation_words, smaller_numbers, smaller_screens, Case, Mismatch,

@@ -1,4 +1,4 @@
-//! Both renderers on windows and images.
+//! Both renderers on windows and images (rules 7.1 to 7.6).
 
 use crate::case::{
     compare, differing, screen_words, separation_words, smaller_screens, smaller_windows, Case, Mismatch,
@@ -77,7 +77,7 @@ enum Phases {
 }
 
 impl Phases {
-    /// The brick buffer; for a screen that isn't admitted any buffer serves.
+    /// The brick buffer; of a screen that isn't admitted it may be any (rule 3.8).
     fn brick(self, screen: Screen) -> Vec<u16> {
         if screen_refusal(screen) != 0 {
             return vec![3, 1, 4, 1, 5];
@@ -289,7 +289,7 @@ fn limits_of_rendering() {
     }
 }
 
-/// Separations beyond the two, which are refused before all else.
+/// Separations beyond the two, which are refused before all else (rule 14.3).
 #[test]
 fn separations_that_there_are_not() {
     for screen in choose::limit_screens() {

@@ -1,8 +1,8 @@
-//! The compiled library compared with the plain second implementation: the paper's marks and demand 3,
-//! every refusal from both sides of its limit, and many screens, windows, images, plates and primaries
-//! drawn from fixed seeds. Lent memory stands between guards and is compared whole, guards included,
-//! after every call, refused ones too. A mismatch is shrunk to the smallest case found and then told in
-//! plain words.
+//! The compiled library compared with the plain second implementation: the worked examples and finished
+//! windows, every refusal from both sides of its limit, and many screens, windows, images, plates and
+//! primaries drawn from fixed seeds. Lent memory stands between guards and is compared whole, guards
+//! included, after every call, refused ones too (rule 11.3). A mismatch is shrunk to the smallest case found
+//! and then told in plain words.
 //!
 //! Run by `cargo test --release`; it takes about half a minute.
 
@@ -14,6 +14,7 @@ mod guarded;
 mod images;
 mod null;
 mod plates;
+mod rules;
 mod screens;
 mod subject;
 

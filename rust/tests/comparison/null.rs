@@ -1,4 +1,4 @@
-//! A null pointer with length 0 is an empty slice.
+//! A null pointer with length 0 is an empty slice (rule 14.2).
 
 use crate::promises::{DEMICHEL, KUEPPERS};
 use crate::subject::{c_screen, c_window};

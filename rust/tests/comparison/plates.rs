@@ -1,4 +1,4 @@
-//! Packing and unpacking, of whole and damaged content.
+//! Packing and unpacking, of whole and damaged content (rules 8.5 and 8.6).
 
 use crate::case::{compare, differing, smaller_numbers, Case, Mismatch};
 use crate::choose::Length;

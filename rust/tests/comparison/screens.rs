@@ -1,4 +1,4 @@
-//! Places, brick sizes and brick buffers.
+//! Places, brick sizes and brick buffers (rules 2.4, 3.5 and 3.7).
 
 use crate::case::{compare, differing, screen_words, smaller_numbers, smaller_screens, Case, Mismatch};
 use crate::guarded::Guarded;

@@ -1,4 +1,4 @@
--- `predict::predict` meets its contract: in each case the answer is that of the definition, and so is what the paper says of it.
+-- `predict::predict` meets its contract: in each case the answer is that of the definition, and so is what the rules say of it in numbers.
 -- Assumes nothing.
 use mathlib.Core.Path.{_∙_}
 use borrow.Author.Needs.{needs}

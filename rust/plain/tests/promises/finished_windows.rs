@@ -1,4 +1,4 @@
-//! Demand 3, counted on finished windows of u × L columns and v × H rows.
+//! What finished windows promise, counted on windows of whole bricks (rules 13.1 to 13.7).
 
 use super::{draw, DEMICHEL, KUEPPERS};
 use crate::subject::{brick_of, counts_of, fill_brick, phase_at, render, render_brick};
@@ -16,7 +16,7 @@ struct Finished {
     tallies: [u64; 8],
 }
 
-/// Draws a window of u × L columns and v × H rows somewhere on the sheet, often at its far corner.
+/// Draws a window of whole bricks somewhere on the sheet, often at its far corner (rule 13.1).
 fn draw_window(random: &mut Random, brick: Brick) -> Window {
     let (columns, rows) = (random.between(0, 3) * brick.columns, random.between(0, 3) * brick.rows);
     let (last_x, last_y) = (65_536 - columns, 65_536 - rows);
@@ -32,7 +32,7 @@ fn phases_of(screen: Screen, w: Window) -> Vec<u32> {
     rows.flat_map(|y| (w.x..w.x + w.columns).map(move |x| phase_at(screen, x, y).phase)).collect()
 }
 
-/// Renders a window both ways, which must agree and not refuse.
+/// Renders a window both ways, which must agree (rule 13.7) and not refuse (rule 13.1).
 fn finish(screen: Screen, separation: u32, w: Window, input: &[u8]) -> Finished {
     let mut brick = vec![0; screen.n as usize];
     assert_eq!(fill_brick(screen, &mut brick), 0, "{screen:?}");
@@ -81,7 +81,8 @@ impl Finished {
         (random.between(0, last_column) as usize, random.between(0, last_row) as usize)
     }
 
-    /// Each phase stands u × v times in the window, and the tallies are the cells written.
+    /// Each phase stands u × v times in the window (rule 13.2), and the tallies are the cells written
+    /// (rule 13.3).
     fn check_window(&self) {
         let phases = tally(self.phases.iter().map(|phase| *phase as usize), self.screen.n as usize);
         assert_eq!(phases, vec![self.bricks(); self.screen.n as usize], "{:?}", self.screen);
@@ -90,7 +91,7 @@ impl Finished {
     }
 
     /// In a brick within the window each phase stands once, and each subscreen has its even part of each
-    /// colorant's count.
+    /// colorant's count (rule 13.6).
     fn check_brick(&self, corner: (usize, usize), counts: [u32; 8]) {
         let phases = self.places(corner.0, corner.1).map(|place| self.phases[place] as usize);
         assert_eq!(tally(phases, self.screen.n as usize), vec![1; self.screen.n as usize]);
@@ -103,8 +104,8 @@ impl Finished {
     }
 }
 
-/// The part of each colorant's count in each subscreen, (C(j) + k) / K − (C(j − 1) + k) / K, each division
-/// rounded down; every part is count / K rounded down or up.
+/// The part of each colorant's count in each subscreen, ⌊(C(j) + k) / K⌋ − ⌊(C(j − 1) + k) / K⌋; every part
+/// is count / K rounded down or up (rule 6.4).
 fn even_parts(subscreens: u32, counts: [u32; 8]) -> Vec<u64> {
     let mut parts = Vec::new();
     for k in 0..subscreens {
@@ -119,7 +120,8 @@ fn even_parts(subscreens: u32, counts: [u32; 8]) -> Vec<u64> {
     parts
 }
 
-/// Every count is its colorant's share, N × weight / D, rounded down or up, and they add up to N.
+/// Every count is its colorant's share, N × weight / D, rounded down or up (rule 13.5), and they add up to N
+/// (rule 5.4).
 fn check_shares(screen: Screen, separation: Separation, inks: Inks, counts: [u32; 8]) {
     let d = scale(separation);
     for (weight, count) in weights(separation, inks).iter().zip(counts) {
@@ -133,6 +135,7 @@ fn check_shares(screen: Screen, separation: Separation, inks: Inks, counts: [u32
 /// The rounds of each test; a compiled library stands them in some seconds.
 const ROUNDS: u32 = 2_000;
 
+/// Windows of one colour, which keep rules 13.1 to 13.7.
 #[test]
 fn flat_windows_hold_the_counts_in_every_brick() {
     let mut random = Random::new(3);
@@ -155,6 +158,7 @@ fn flat_windows_hold_the_counts_in_every_brick() {
     }
 }
 
+/// Windows of many colours, which keep rules 13.2, 13.3 and 13.7 too.
 #[test]
 fn noisy_windows_hold_every_phase_and_tally_their_cells() {
     let mut random = Random::new(33);

@@ -1,4 +1,5 @@
-//! The worked marks of the paper, those without a star too, and the example of each refusal.
+//! The worked examples (rules 12.1 to 12.7), the example of each refusal (rules 11.5 to 11.15), and some
+//! small plates and colours.
 
 use super::{DEMICHEL, KUEPPERS};
 use crate::subject::{
@@ -6,17 +7,20 @@ use crate::subject::{
 };
 use cavzemil_plain::{subscreen_of, Brick, Cell, Place, Screen, Window};
 
-/// The paper's screen 4/7 with so many cells, one subscreen and no offset.
+/// The screen 4/7 with so many cells, one subscreen and no offset.
 fn four_sevenths(n: u32) -> Screen {
     Screen { a: 4, b: 7, n, k: 1, g: 0 }
 }
 
-/// The screen of the first P line: 4/7, N = 105, K = 2.
+/// The screen of rules 12.4 and 12.8: 4/7, N = 105, K = 2.
 fn first_screen() -> Screen {
     Screen { k: 2, ..four_sevenths(105) }
 }
 
-/// The ink values of the first P line.
+/// The screen of rule 12.6, which has one cell.
+const ONE_CELL: Screen = Screen { a: 1, b: 2, n: 1, k: 1, g: 0 };
+
+/// The ink values of rules 12.3 and 12.4.
 const FIRST_INKS: [u8; 3] = [128, 128, 0];
 
 /// A window of one cell.
@@ -31,8 +35,8 @@ fn filled_brick(s: Screen) -> Vec<u16> {
     brick
 }
 
-/// The colorant of the first P line at each phase; row 0 runs through all of them, 4 and 105 having no
-/// common divisor.
+/// The colorant at each phase, for the screen and the ink values of rule 12.4; row 0 runs through all phases,
+/// 4 and 105 having no common divisor.
 fn first_colorants() -> [u32; 105] {
     let mut colorants = [8; 105];
     for x in 0..105 {
@@ -42,30 +46,35 @@ fn first_colorants() -> [u32; 105] {
     colorants
 }
 
+/// Rule 12.1.
 #[test]
 fn bricks_have_the_worked_sizes() {
     let sizes = |columns, rows, shift| Brick { refusal: 0, columns, rows, shift };
     assert_eq!(brick_of(four_sevenths(105)), sizes(105, 1, 28));
     assert_eq!(brick_of(four_sevenths(70)), sizes(35, 2, 21));
-    assert_eq!(brick_of(Screen { a: 1, b: 2, n: 1, k: 1, g: 0 }), sizes(1, 1, 0));
+    assert_eq!(brick_of(ONE_CELL), sizes(1, 1, 0));
 }
 
+/// Rule 12.2. A difference below 0 leaves no remainder below 0 (rule 12.12).
 #[test]
 fn phases_are_the_worked_ones() {
     assert_eq!(phase_at(four_sevenths(105), 0, 1), Place { refusal: 0, phase: 98 });
     assert_eq!(phase_at(four_sevenths(105), 3, 2), Place { refusal: 0, phase: 103 });
 }
 
+/// Rules 12.3, 12.5, 12.6 and 12.8. Each share rounded by itself would give 26 of blue (rule 12.11).
 #[test]
 fn counts_are_the_worked_ones() {
-    let of = |n, separation, inks| counts_of(four_sevenths(n), separation, inks).of;
-    assert_eq!(counts_of(first_screen(), DEMICHEL, FIRST_INKS).of, [26, 26, 0, 27, 0, 0, 0, 26]);
-    assert_eq!(counts_of(first_screen(), KUEPPERS, FIRST_INKS).of, [0, 0, 0, 53, 0, 0, 0, 52]);
-    assert_eq!(of(70, KUEPPERS, [51, 102, 204]), [0, 0, 28, 0, 0, 14, 14, 14]);
-    assert_eq!(of(1, KUEPPERS, [128, 0, 0]), [1, 0, 0, 0, 0, 0, 0, 0]);
-    assert_eq!(of(1, KUEPPERS, [127, 0, 0]), [0, 0, 0, 0, 0, 0, 0, 1]);
+    let of = |screen, separation, inks| counts_of(screen, separation, inks).of;
+    assert_eq!(of(four_sevenths(105), DEMICHEL, FIRST_INKS), [26, 26, 0, 27, 0, 0, 0, 26]);
+    assert_eq!(of(first_screen(), DEMICHEL, FIRST_INKS), [26, 26, 0, 27, 0, 0, 0, 26]);
+    assert_eq!(of(first_screen(), KUEPPERS, FIRST_INKS), [0, 0, 0, 53, 0, 0, 0, 52]);
+    assert_eq!(of(four_sevenths(70), KUEPPERS, [51, 102, 204]), [0, 0, 28, 0, 0, 14, 14, 14]);
+    assert_eq!(of(ONE_CELL, KUEPPERS, [128, 0, 0]), [1, 0, 0, 0, 0, 0, 0, 0]);
+    assert_eq!(of(ONE_CELL, KUEPPERS, [127, 0, 0]), [0, 0, 0, 0, 0, 0, 0, 1]);
 }
 
+/// Rule 12.4. Counts divided by K would leave a cell of the second subscreen empty (rule 12.13).
 #[test]
 fn subscreens_split_the_first_counts() {
     let mut cells = [0; 2];
@@ -79,19 +88,22 @@ fn subscreens_split_the_first_counts() {
     assert_eq!(counts, [[13, 13, 0, 13, 0, 0, 0, 13], [13, 13, 0, 14, 0, 0, 0, 13]]);
 }
 
+/// Rule 12.4.
 #[test]
 fn phase_39_is_white_and_phase_91_blue() {
     assert_eq!(first_colorants()[39], 7);
     assert_eq!(first_colorants()[91], 3);
 }
 
+/// Rule 12.6.
 #[test]
 fn one_cell_is_cyan_from_128_on() {
-    let colorant = |c| cell_at(four_sevenths(1), KUEPPERS, 0, 0, [c, 0, 0]);
+    let colorant = |c| cell_at(ONE_CELL, KUEPPERS, 0, 0, [c, 0, 0]);
     assert_eq!(colorant(128), Cell { refusal: 0, colorant: 0 });
     assert_eq!(colorant(127), Cell { refusal: 0, colorant: 7 });
 }
 
+/// Rule 12.7.
 #[test]
 fn the_last_column_and_the_last_offset_pass() {
     let mut out = [9];
@@ -99,6 +111,7 @@ fn the_last_column_and_the_last_offset_pass() {
     assert_eq!(phase_at(Screen { g: 69, ..four_sevenths(70) }, 0, 0), Place { refusal: 0, phase: 1 });
 }
 
+/// Rules 11.5 to 11.9.
 #[test]
 fn screens_and_places_are_refused_as_in_the_examples() {
     let refusal = |a, b, n, k, g| brick_of(Screen { a, b, n, k, g }).refusal;
@@ -109,6 +122,7 @@ fn screens_and_places_are_refused_as_in_the_examples() {
     assert_eq!(phase_at(four_sevenths(70), 65_536, 0), Place { refusal: 5, phase: 0 });
 }
 
+/// Rules 11.9 to 11.12.
 #[test]
 fn renderings_are_refused_as_in_the_examples() {
     let s = four_sevenths(70);
@@ -128,6 +142,7 @@ fn renderings_are_refused_as_in_the_examples() {
     assert_eq!(out, [200; 2]);
 }
 
+/// Rule 11.13.
 #[test]
 fn plates_are_refused_as_in_the_example() {
     let mut cells = [200];
@@ -137,6 +152,7 @@ fn plates_are_refused_as_in_the_example() {
     assert_eq!(cells, [1]);
 }
 
+/// Rules 8.1 to 8.5.
 #[test]
 fn plates_set_the_bit_of_each_pixel() {
     let cells = [0, 1, 2, 3, 4, 5, 6, 7, 0, 7];
@@ -146,8 +162,9 @@ fn plates_set_the_bit_of_each_pixel() {
     assert_eq!(pack(10, 1, &[8; 10], &mut planes), 9);
 }
 
+/// Rule 11.15.
 #[test]
-fn the_first_colorant_with_a_bad_value_is_named() {
+fn the_first_bad_primary_is_named() {
     let mut primaries = [1.0; 24];
     primaries[3] = 200.5;
     primaries[9] = f64::NAN;
@@ -155,6 +172,7 @@ fn the_first_colorant_with_a_bad_value_is_named() {
     assert_eq!((refused.refusal, refused.colorant, refused.xyz), (11, 1, [0.0; 3]));
 }
 
+/// Rule 9.4.
 #[test]
 fn a_fulltone_comes_back_exactly() {
     let mut primaries = [33.3; 24];
@@ -166,6 +184,7 @@ fn a_fulltone_comes_back_exactly() {
     }
 }
 
+/// Rule 12.14.
 #[test]
 fn bricks_are_stepped_by_s_from_the_sheets_corner() {
     let s = Screen { g: 5, k: 3, ..four_sevenths(70) };

@@ -1,11 +1,11 @@
-//! What the paper promises of any implementation. The calls are those of the module `subject` of the
-//! test that includes this one, so that the plain and the compiled library stand the same test.
+//! What the rules promise of any implementation. The calls are those of the module `subject` of the test
+//! that includes this one, so that the plain and the compiled library stand the same test.
 
 pub mod draw;
 mod finished_windows;
 mod marks;
 
-/// The number of Demichel's separation.
+/// The number of Demichel's separation (rule 14.3).
 pub const DEMICHEL: u32 = 0;
 
 /// The number of Kueppers's separation.

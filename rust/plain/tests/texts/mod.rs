@@ -1,6 +1,6 @@
-//! Texts of the counts program with what it writes for them, from the paper's section.
+//! Texts of the counts program with what it writes for them (rules 10.1 to 10.8).
 
-/// The paper's own text.
+/// The text of rule 12.8.
 const WORKED: &str = "S\t4\t7\t105\t2\t0\nP\tdemichel\t128\t128\t0\nP\tkueppers\t128\t128\t0\n";
 
 /// An S line of the stated form with an admitted screen.
@@ -27,7 +27,7 @@ fn bad(line: u32, refusal: u32) -> String {
     format!("E\t{line}\t{refusal}\n")
 }
 
-/// Texts that are refused for their length, or for a missing, surplus or unended line.
+/// Texts that are too long, or in which a line is missing, one too many, or without its end.
 fn whole_texts() -> Vec<(String, u32, u32)> {
     let s = S.to_owned();
     vec![
@@ -51,7 +51,7 @@ fn whole_texts() -> Vec<(String, u32, u32)> {
     ]
 }
 
-/// S lines that are refused, by their form before their screen.
+/// S lines that are refused, by their form before their screen (rule 10.8).
 fn first_lines() -> Vec<(&'static str, u32)> {
     vec![
         ("S\t4\t8\t105\t2\t0\n", 1),

@@ -2,13 +2,13 @@
 use mathlib.Core.Path.{_≡_, sym, ap, _∙_}
 use borrow.Author.Needs.{needs}
 use Rattle.predict.specs.declared.Prediction as Predictions
-use Rattle.predict.specs.Paper.{paperOf}
-use Rattle.cavzemil.specs.Colours.{paperLaid}
+use Rattle.predict.specs.Numbered.{numberedOf}
+use Rattle.cavzemil.specs.Colours.{numberedLaid}
 use Rattle.cavzemil.proofs.colours.numbered.Statement.{statement}
 use Rattle.cavzemil.proofs.colours.numbered.Tie as tie
 
-as-told : {p q : Predictions.Prediction} → p ≡ q → paperLaid (paperOf p) ≡ paperLaid (paperOf q)
-as-told e = ap (λ (p : Predictions.Prediction). paperLaid (paperOf p)) e
+as-told : {p q : Predictions.Prediction} → p ≡ q → numberedLaid (numberedOf p) ≡ numberedLaid (numberedOf q)
+as-told e = ap (λ (p : Predictions.Prediction). numberedLaid (numberedOf p)) e
 
 enum-known-answer : tie.Need-enum-known-answer
 enum-known-answer c = search needs

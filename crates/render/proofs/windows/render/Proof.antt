@@ -3,7 +3,7 @@ use mathlib.Core.Path.{refl, sym, _∙_}
 use borrow.Author.Needs.{needs}
 use Rattle.render.proofs.RefusalLaws.{window-kept}
 use Rattle.render.proofs.AnswerLaws.{answer-none, answer-empty, answer-whole, cells-length, cells-are, rows-lent, table-of}
-use Rattle.render.proofs.DemandLaws.{worked-keeps}
+use Rattle.render.proofs.FinishedLaws.{worked-keeps}
 use Rattle.render.proofs.windows.render.Statement.{statement}
 use Rattle.render.proofs.windows.render.Tie as tie
 

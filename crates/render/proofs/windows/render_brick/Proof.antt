@@ -8,7 +8,7 @@ use Rattle.arith.proofs.RefusalLaws.{failed, passed}
 use Rattle.screen.proofs.Published.{brick-answered}
 use Rattle.render.proofs.RefusalLaws.{window-kept, due-true, brick-window, brick-undue, brick-whole}
 use Rattle.render.proofs.AnswerLaws.{answer-none, answer-empty, answer-whole, cells-length, cells-are, rows-lent, table-of}
-use Rattle.render.proofs.DemandLaws.{read-keeps}
+use Rattle.render.proofs.FinishedLaws.{read-keeps}
 use Rattle.render.proofs.BrickRow.{brick-lent, brick-reads}
 use Rattle.render.proofs.windows.render_brick.Statement.{statement}
 use Rattle.render.proofs.windows.render_brick.Tie as tie

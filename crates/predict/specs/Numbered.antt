@@ -1,5 +1,4 @@
--- An answer of `predict` in the paper's numbers: "The lowest number that applies is returned, .. any other returned numbers are 0
--- (11 carries its colorant)".
+-- Rules 9.5, 11.2 and 11.3: an answer of `predict` in numbers.
 -- Assumes nothing: these are definitions.
 use Prim.Native.Nat.{ℕ}
 use mathlib.Core.Bool.{cond}
@@ -18,20 +17,20 @@ use Rattle.predict.specs.declared.Prediction.the-variants.{Colour, BadPr
 use Rattle.predict.specs.Predicted.{plusZero, primary, firstBad, channel}
 
 -- the refusal's number, 0 where there is none; the colorant that 11 carries; and X, Y and Z
-pub record Paper : Type 0 where
+pub record Numbered : Type 0 where
   pub refusal : ℕ
   pub colorant : ℕ
   pub x : Float
   pub y : Float
   pub z : Float
 
--- the paper's number and values for each case of the answer
-abbrev pub paperOf : Prediction → Paper
-paperOf (Colour x y z) = record { refusal = 0; colorant = 0; x = x; y = y; z = z }
-paperOf (BadPrimary j) = record { refusal = 11; colorant = j; x = plusZero; y = plusZero; z = plusZero }
-paperOf (BadScreen number) = record { refusal = number; colorant = 0; x = plusZero; y = plusZero; z = plusZero }
+-- the numbers and values for each case of the answer
+abbrev pub numberedOf : Prediction → Numbered
+numberedOf (Colour x y z) = record { refusal = 0; colorant = 0; x = x; y = y; z = z }
+numberedOf (BadPrimary j) = record { refusal = 11; colorant = j; x = plusZero; y = plusZero; z = plusZero }
+numberedOf (BadScreen number) = record { refusal = number; colorant = 0; x = plusZero; y = plusZero; z = plusZero }
 
--- "11: a primary value not 0 to 200 (NaN included)", after 1 to 4
+-- rules 11.4 and 11.15: 11, after 1 to 4
 unfoldable pub predictRefusal : Screen → List Xyz → ℕ
 predictRefusal s ps = orElse (refusalOf s) (cond (ltb (firstBad ps) 8) 11 0)
 
@@ -40,7 +39,7 @@ abbrev pub valued : ℕ → Float → Float
 valued refusal v = cond (eqb refusal 0) v plusZero
 
 -- what the rules say of a call
-unfoldable pub ruled : Screen → Separation → Inks → List Xyz → Paper
+unfoldable pub ruled : Screen → Separation → Inks → List Xyz → Numbered
 ruled s sep inks ps =
     record {
       refusal = predictRefusal s ps;

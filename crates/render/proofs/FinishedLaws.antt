@@ -1,4 +1,4 @@
--- Demand 3 of both renderers, from the definitions: in any brick of a window each phase occurs once, so a sum over its cells is a sum
+-- Rules 13.1 to 13.7 of both renderers, from the definitions: in any brick of a window each phase occurs once, so a sum over its cells is a sum
 -- over the phases, which counts them as the quantiser does; and a true brick leaves a window's refusal as it is, so that the two agree.
 -- Assumes nothing.
 use Prim.Native.Nat.{ℕ, _+_, _*_, _/_, _%_, _≤_, _<_}
@@ -33,7 +33,7 @@ use Rattle.render.specs.declared.Window.{Window}
 use Rattle.render.specs.declared.Rendering.{Rendering}
 use Rattle.render.specs.Windows.{area, cellOf, windowCell, windowCells, talliesOf}
 use Rattle.render.specs.Answers.{windowRefusal, brickRefusal, answerOf, rendering, rendered, brickRendering, brickRendered}
-use Rattle.render.specs.Demand.{Brickwork, Even, Demand3, Agreement, bytesInSubscreen}
+use Rattle.render.specs.Finished.{Brickwork, Even, FinishedWindow, Agreement, bytesInSubscreen}
 use Rattle.render.proofs.RefusalLaws.{window-whole, window-kept, true-due, brick-window, brick-whole}
 use Rattle.render.proofs.AnswerLaws.{cells-length}
 
@@ -112,7 +112,7 @@ module _ (s : Screen) (sep : Separation) (w : Window) (input out : List ℕ) (in
   unfolding rendered
   all-written = written-all _ _ out not-refused (cells-length s sep w input ∙ sym (b .outputs-stated))
 
-  -- and so both keep the demand
+  -- and so both keep the promise
   even : Even s sep w inks u v (rendering s sep w input out) (rendered s sep w input out)
   unfolding rendering answerOf
   even =
@@ -127,20 +127,20 @@ module _ (s : Screen) (sep : Separation) (w : Window) (input out : List ℕ) (in
             (subscreen-share s (b .admitted) sep inks (b .bytes) k colorant l h);
       }
 
--- ---- the demand
+-- ---- the promise
 
 -- of `render`
-demand-worked : (s : Screen) (sep : Separation) (w : Window) (input out : List ℕ)
-    → Demand3 s sep w input (length out) (rendering s sep w input out) (rendered s sep w input out)
-demand-worked = even
+finished-worked : (s : Screen) (sep : Separation) (w : Window) (input out : List ℕ)
+    → FinishedWindow s sep w input (length out) (rendering s sep w input out) (rendered s sep w input out)
+finished-worked = even
 
--- and so what it answers and leaves determines the call and keeps the demand
+-- and so what it answers and leaves determines the call and keeps the promise
 pub worked-keeps : (s : Screen) (sep : Separation) (w : Window) (input out : List ℕ) {answer : Rendering} {out₁ : List ℕ}
     → (answer ≡ answerOf (windowRefusal s w (length input) (length out)) (windowCells s sep w input))
     × (out₁ ≡ written (windowRefusal s w (length input) (length out)) (windowCells s sep w input) out)
-    → (answer ≡ rendering s sep w input out) × ((out₁ ≡ rendered s sep w input out) × Demand3 s sep w input (length out) answer out₁)
+    → (answer ≡ rendering s sep w input out) × ((out₁ ≡ rendered s sep w input out) × FinishedWindow s sep w input (length out) answer out₁)
 unfolding rendering rendered
-worked-keeps s sep w input out p = (p .0, (p .1, rw (p .0, p .1) (demand-worked s sep w input out)))
+worked-keeps s sep w input out p = (p .0, (p .1, rw (p .0, p .1) (finished-worked s sep w input out)))
 
 -- a true brick leaves a window's refusal as it is
 same-refusal : (s : Screen) (w : Window) (inputs outputs : ℕ) (brick : List ℕ) → Brick.TrueBrick s brick
@@ -159,16 +159,16 @@ agreement s sep w input brick out holds =
     (ap (λ (r : ℕ). answerOf r (windowCells s sep w input)) e, ap (λ (r : ℕ). written r (windowCells s sep w input) out) e)
 
 -- of `render_brick`
-demand-read : (s : Screen) (sep : Separation) (w : Window) (input brick out : List ℕ) → Brick.TrueBrick s brick
-    → Demand3 s sep w input (length out) (brickRendering s sep w input brick out) (brickRendered s sep w input brick out)
-demand-read s sep w input brick out holds =
+finished-read : (s : Screen) (sep : Separation) (w : Window) (input brick out : List ℕ) → Brick.TrueBrick s brick
+    → FinishedWindow s sep w input (length out) (brickRendering s sep w input brick out) (brickRendered s sep w input brick out)
+finished-read s sep w input brick out holds =
     let same = agreement s sep w input brick out holds in
-    rw (same .0, same .1) (demand-worked s sep w input out)
+    rw (same .0, same .1) (finished-worked s sep w input out)
 
 pub read-keeps : (s : Screen) (sep : Separation) (w : Window) (input brick out : List ℕ) {answer : Rendering} {out₁ : List ℕ}
     → (answer ≡ answerOf (brickRefusal s w (length input) (length out) brick) (windowCells s sep w input))
     × (out₁ ≡ written (brickRefusal s w (length input) (length out) brick) (windowCells s sep w input) out)
     → (answer ≡ brickRendering s sep w input brick out)
-    × ((out₁ ≡ brickRendered s sep w input brick out) × (Brick.TrueBrick s brick → Demand3 s sep w input (length out) answer out₁))
+    × ((out₁ ≡ brickRendered s sep w input brick out) × (Brick.TrueBrick s brick → FinishedWindow s sep w input (length out) answer out₁))
 unfolding brickRendering brickRendered
-read-keeps s sep w input brick out p = (p .0, (p .1, λ holds. rw (p .0, p .1) (demand-read s sep w input brick out holds)))
+read-keeps s sep w input brick out p = (p .0, (p .1, λ holds. rw (p .0, p .1) (finished-read s sep w input brick out holds)))

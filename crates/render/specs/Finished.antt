@@ -1,4 +1,4 @@
--- Demand 3, in the paper's words and order. Both renderers' contracts cite it; that they agree is `Agreement`.
+-- Rules 13.1 to 13.7: what finished windows promise. Both renderers' contracts cite `FinishedWindow`; that they agree is `Agreement`.
 -- Assumes nothing: these are statements.
 use Prim.Native.Nat.{ℕ, _+_, _*_, _≤_, _<_}
 use mathlib.Core.Path.{_≡_}
@@ -24,8 +24,7 @@ use Rattle.render.specs.declared.Rendering.{Rendering}
 use Rattle.render.specs.Windows.{area, inksAt}
 use Rattle.render.specs.Answers.{rendering, rendered, brickRendering, brickRendered}
 
--- "In every window of u by v bricks with one ink triple": "The window has u × L columns and v × H rows, u and v any whole numbers
--- from 0; with input and output of the stated lengths"
+-- rule 13.1: a window of u by v bricks on the sheet, with the same ink values everywhere, and with runs of the right lengths
 pub record Brickwork (s : Screen) (w : Window) (inks : Inks) (u v : ℕ) (input : List ℕ) (outputs : ℕ) : Type 0 where
   pub admitted : Admitted s
   pub bytes : InkValues inks
@@ -37,38 +36,36 @@ pub record Brickwork (s : Screen) (w : Window) (inks : Inks) (u v : ℕ) (input 
   pub one-triple : (i : ℕ) → i < area w → inksAt input i ≡ inks
   pub outputs-stated : outputs ≡ area w
 
--- "the output bytes that equal its number", among the cells of the brick at (i, j) in the window that are in subscreen k: "A cell is
--- in the subscreen that its phase falls in."
+-- rule 13.6: how many of the cells of the brick at (i, j) in the window have a phase in subscreen k and a byte that is the colorant
 unfoldable pub bytesInSubscreen : Screen → Window → List ℕ → ℕ → ℕ → ℕ → ℕ → ℕ
 bytesInSubscreen s w out i j k colorant =
     sumBelow (Brick.rows s) (λ r. sumBelow (Brick.columns s) (λ c.
     indicator (eqb (subscreenOf s (phase s (w .x + (i + c)) (w .y + (j + r)))) k && eqb (getD out ((j + r) * w .columns + (i + c)) 0) colorant)))
 
--- a tally is u × v times its colorant's quantised count
+-- rule 13.4, of one colorant
 abbrev pub Counted : Screen → Separation → Inks → ℕ → ℕ → List ℕ → ℕ → Type 0
 Counted s sep inks u v tallies j = getD tallies j 0 ≡ u * v * count s sep inks j
 
 pub record Even (s : Screen) (sep : Separation) (w : Window) (inks : Inks) (u v : ℕ) (answer : Rendering) (out : List ℕ) : Type 0 where
-  -- "neither renderer refuses it"
+  -- rule 13.1: it is not refused
   pub not-refused : answer .refusal ≡ 0
-  -- "each phase occurs exactly u × v times", "Each phase means 0 to N − 1."
+  -- rule 13.2
   pub phases : (p : ℕ) → p < s .n → times s (w .x) (w .y) (w .columns) (w .rows) p ≡ u * v
-  -- "tallies equal the cells written", "the output bytes that equal its number"
+  -- rule 13.3
   pub written : (j : ℕ) → j < 8 → getD (answer .tallies) j 0 ≡ tally j out
-  -- "and are u × v times the quantised counts"
+  -- rule 13.4
   pub counted : (j : ℕ) → j < 8 → Counted s sep inks u v (answer .tallies) j
-  -- "counts are shares rounded down or up"
+  -- rule 13.5
   pub shares : (j : ℕ) → j < 8 → ShareRounded s sep inks j
-  -- "subscreens split them evenly", in "any L neighbouring columns by H neighbouring rows of it, wherever they begin"
+  -- rule 13.6, of the brick at (i, j) in the window
   pub subscreens : (i j : ℕ) → i + Brick.columns s ≤ w .columns → j + Brick.rows s ≤ w .rows → (k colorant : ℕ) → k < s .k → colorant < 8
       → SplitEvenly s sep inks colorant (bytesInSubscreen s w out i j k colorant)
 
 -- what a renderer promises of its answer and its output
-abbrev pub Demand3 : Screen → Separation → Window → List ℕ → ℕ → Rendering → List ℕ → Type 0
-Demand3 s sep w input outputs answer out = (inks : Inks) (u v : ℕ) → Brickwork s w inks u v input outputs → Even s sep w inks u v answer out
+abbrev pub FinishedWindow : Screen → Separation → Window → List ℕ → ℕ → Rendering → List ℕ → Type 0
+FinishedWindow s sep w input outputs answer out = (inks : Inks) (u v : ℕ) → Brickwork s w inks u v input outputs → Even s sep w inks u v answer out
 
--- "both renderers, called alike, agree in answer, tallies and bytes for every input, refused ones included", where the second is lent
--- a true brick
+-- rule 13.7: both renderers agree, where the second is lent a true brick
 abbrev pub Agreement : Type 0
 Agreement =
     (s : Screen) (sep : Separation) (w : Window) (input brick out : List ℕ) → Brick.TrueBrick s brick

@@ -1,0 +1,198 @@
+"""Works out what the test program in C must print, from the rules and Python's own floats.
+
+    PYTHONPATH=scripts python3 -B tests/c/expected.py
+"""
+
+import struct
+
+from rules import COLORANTS, COLOURS, RULES_IN_FORCE, SEPARATIONS
+from rules import brick, brick_phases, colorants, counts, numbers, phase
+from rules import refusal as screen_refusal
+
+SCREEN = 4, 7, 30, 3, 5
+REFUSED = {
+    "slope 4/8": (4, 8, 30, 3, 5), "4097 cells": (4, 7, 4097, 3, 5),
+    "17 subscreens": (4, 7, 30, 17, 5), "offset 30": (4, 7, 30, 3, 30),
+}
+WINDOW = 8, 13, 5, 3
+TINT = 51, 204, 102
+INPUT = [
+    51, 102, 204, 200, 90, 140, 13, 77, 250, 255, 255, 0, 0, 0, 0,
+    128, 0, 128, 9, 240, 31, 180, 180, 180, 60, 0, 0, 0, 99, 201,
+    250, 240, 230, 77, 13, 128, 40, 160, 80, 90, 10, 170, 222, 33, 111,
+]
+PLATE = 11, 2
+CELLS = [0, 1, 2, 3, 4, 5, 6, 7, 7, 0, 5, 2, 7, 4, 1, 6, 3, 0, 6, 1, 3, 5]
+PRIMARIES = [
+    22.1, 28.3, 90.7, 38.0, 20.2, 17.6, 76.9, 82.4, 10.3, 8.8, 6.1, 30.0,
+    9.5, 17.7, 8.2, 32.9, 18.4, 4.6, 2.0, 2.5, 2.7, 88.0, 92.3, 98.1,
+]
+
+
+def show(function, call, r, rest=""):
+    print(f"{function}, {call}: refusal {r}{rest}")
+
+
+def lent(name, front, room, before=170):
+    """Memory after a call that wrote its front, every place the same before."""
+    return f"; {name} {numbers(front + [before] * (room - len(front)))}"
+
+
+def refusal(s, sep):
+    return screen_refusal(s) if sep in SEPARATIONS else 100
+
+
+def sheet_refusal(x, y, columns=1, rows=1):
+    return 5 if x + columns > 65536 or y + rows > 65536 else 0
+
+
+def window_refusal(s, sep, w, inputs, outputs):
+    cells = w[2] * w[3]
+    return refusal(s, sep) or sheet_refusal(*w) or (6 if inputs != 3 * cells else 7 if outputs != cells else 0)
+
+
+def rendered(s, sep, w):
+    x, y, columns, rows = w
+    places = [(x + i, y + j) for j in range(rows) for i in range(columns)]
+    return [colorants(s, sep, INPUT[3 * i : 3 * i + 3])[phase(s, *place)] for i, place in enumerate(places)]
+
+
+def tallies(cells):
+    return f", tallies {numbers(cells.count(j) for j in range(8))}"
+
+
+def show_place(call, s, x=8, y=13):
+    r = screen_refusal(s) or sheet_refusal(x, y)
+    show("phase_at", call, r, f", phase {0 if r else phase(s, x, y)}")
+
+
+def show_brick(call, s):
+    r = screen_refusal(s)
+    columns, rows, shift = (0, 0, 0) if r else brick(s)
+    show("brick_of", call, r, f", columns {columns}, rows {rows}, shift {shift}")
+
+
+def show_filling(call, s, places=31):
+    r = screen_refusal(s) or (8 if places < s[2] else 0)
+    show("fill_brick", call, r, lent("brick", [] if r else brick_phases(s), 32, 170 * 257))
+
+
+def show_counts(call, s, sep):
+    r = refusal(s, sep)
+    show("counts_of", call, r, f", of {numbers([0] * 8 if r else counts(s, sep, TINT))}")
+
+
+def show_cell(call, s, sep, x=8, y=13):
+    r = refusal(s, sep) or sheet_refusal(x, y)
+    show("cell_at", call, r, f", colorant {0 if r else colorants(s, sep, TINT)[phase(s, x, y)]}")
+
+
+def show_window(call, s, sep, w=WINDOW, inputs=45, outputs=15):
+    r = window_refusal(s, sep, w, inputs, outputs)
+    cells = [] if r else rendered(s, sep, w)
+    show("render", call, r, tallies(cells) + lent("out", cells, 17))
+
+
+def show_brick_window(call, s, sep, places=31):
+    r = window_refusal(s, sep, WINDOW, 45, 15) or (8 if places < s[2] else 0)
+    cells = [] if r else rendered(s, sep, WINDOW)
+    buffer = lent("brick", brick_phases(SCREEN), 32, 0)
+    show("render_brick", call, r, tallies(cells) + lent("out", cells, 17) + buffer)
+
+
+def colour(s, sep, primaries):
+    """X, Y and Z: a sum that begins with 0, and is divided."""
+    sums = [0.0, 0.0, 0.0]
+    for j, count in enumerate(counts(s, sep, TINT)):
+        sums = [total + float(count) * value for total, value in zip(sums, primaries[3 * j : 3 * j + 3])]
+    return [total / float(s[2]) for total in sums]
+
+
+def show_colour(call, s, sep, primaries=PRIMARIES):
+    bad = [place // 3 for place, value in enumerate(primaries) if not 0 <= value <= 200]
+    r = refusal(s, sep) or (6 if len(primaries) != 24 else 11 if bad else 0)
+    values = [0.0] * 3 if r else colour(s, sep, primaries)
+    bits = "".join(f", {name} {struct.pack('>d', value).hex()}" for name, value in zip("xyz", values))
+    show("predict", call, r, f", colorant {bad[0] if r == 11 else 0}{bits}")
+
+
+def planes_of(cells):
+    columns, rows = PLATE
+    lines = [cells[y * columns : (y + 1) * columns] for y in range(rows)]
+    digits = ["".join("1" if cell == plane else "0" for cell in line) for plane in range(8) for line in lines]
+    return [int(row.ljust(16, "0")[i : i + 8], 2) for row in digits for i in (0, 8)]
+
+
+def cells_of(planes):
+    """The first plane of each pixel."""
+    columns, rows = PLATE
+    digits = "".join(f"{byte:08b}" for byte in planes)
+    pixels = [(x, y) for y in range(rows) for x in range(columns)]
+    return [min(plane for plane in range(8) if digits[(plane * rows + y) * 16 + x] == "1") for x, y in pixels]
+
+
+def show_packing(call, cells, places=32):
+    r = 6 if len(cells) != 22 else 7 if places != 32 else 9 if max(cells) > 7 else 0
+    show("pack", call, r, lent("planes", [] if r else planes_of(cells), 34))
+
+
+def show_unpacking(call, planes, taken=32, places=22):
+    """Planes that are not those of their own cells have a pixel in none or two, or padding set."""
+    cells = cells_of(planes)
+    r = 6 if taken != 32 else 7 if places != 22 else 9 if planes != planes_of(cells) else 0
+    show("unpack", call, r, lent("cells", [] if r else cells, 24) + lent("planes", planes, 32))
+
+
+def show_screen(call, s):
+    show_place(call, s)
+    show_brick(call, s)
+    show_filling(call, s)
+
+
+def show_separation(call, s, sep):
+    show_counts(call, s, sep)
+    show_cell(call, s, sep)
+    show_window(call, s, sep)
+    show_brick_window(call, s, sep)
+    show_colour(call, s, sep)
+
+
+print(f"rules {RULES_IN_FORCE}")
+for number, sep in enumerate(SEPARATIONS):
+    print(f"CAVZEMIL_{sep.upper()} {number}")
+for number, held in enumerate(COLORANTS):
+    full = [255 if ink in held else 0 for ink in "cmy"]
+    found = colorants(SCREEN, "demichel", full)[phase(SCREEN, 8, 13)]
+    show("cell_at", f"CAVZEMIL_{COLOURS[held].upper()}", 0, f", colorant {found}, constant {number}")
+
+show_screen("served", SCREEN)
+for sep in SEPARATIONS:
+    show_separation(sep, SCREEN, sep)
+show_separation("separation 2", SCREEN, "separation 2")
+for call, screen in REFUSED.items():
+    show_screen(call, screen)
+    show_separation(call, screen, "demichel")
+
+show_place("beyond the sheet", SCREEN, y=65536)
+show_filling("brick too short", SCREEN, 29)
+show_cell("beyond the sheet", SCREEN, "kueppers", x=65536)
+show_window("last of the sheet", SCREEN, "kueppers", (65531, 65533, 5, 3))
+show_window("beyond the sheet", SCREEN, "kueppers", (65532, 13, 5, 3))
+show_window("input too short", SCREEN, "kueppers", inputs=44)
+show_window("output too long", SCREEN, "kueppers", outputs=16)
+show_brick_window("brick too short", SCREEN, "kueppers", 29)
+show_colour("primaries too short", SCREEN, "kueppers", PRIMARIES[:23])
+show_colour("green too bright", SCREEN, "kueppers", PRIMARIES[:13] + [200.5] + PRIMARIES[14:])
+
+planes = planes_of(CELLS)
+show_packing("served", CELLS)
+show_packing("cells too short", CELLS[:21])
+show_packing("planes too long", CELLS, 33)
+show_packing("a cell of 8", CELLS[1:] + [8])
+show_unpacking("served", planes)
+show_unpacking("planes too short", planes, taken=31)
+show_unpacking("cells too long", planes, places=23)
+show_unpacking("padding set", [planes[0], planes[1] | 1] + planes[2:])
+show("render", "nothing lent", window_refusal(SCREEN, "kueppers", (8, 13, 0, 3), 0, 0), tallies([]))
+show("pack", "nothing lent", 0)
+show("unpack", "nothing lent", 0)

@@ -1,0 +1,265 @@
+/*
+ * Calls every function of the C interface through its header alone, and prints every answer, field by field, with
+ * all memory that was lent. Fields are set and read by their names, and memory that a call only reads is const: a
+ * header that exchanges two of them does not compile here, or something else is printed than expected.py prints.
+ */
+#include "cavzemil.h"
+
+#include <inttypes.h>
+#include <stdio.h>
+#include <string.h>
+
+enum { N = 30, PLACES = N + 2, X = 8, Y = 13, WIDE = 5, HIGH = 3, CELLS = WIDE * HIGH };
+enum { PLATE_WIDE = 11, PLATE_HIGH = 2, PLATE_CELLS = PLATE_WIDE * PLATE_HIGH, PLANES = 8 * PLATE_HIGH * 2 };
+enum { VALUES = 24, SHEET = 65536, GUARDS = 2, UNWRITTEN = 170 };
+
+static const cavzemil_screen screen = {.a = 4, .b = 7, .n = N, .k = 3, .g = 5};
+static const struct { const char *call; cavzemil_screen s; } refused[] = {
+    {"slope 4/8", {.a = 4, .b = 8, .n = N, .k = 3, .g = 5}},
+    {"4097 cells", {.a = 4, .b = 7, .n = 4097, .k = 3, .g = 5}},
+    {"17 subscreens", {.a = 4, .b = 7, .n = N, .k = 17, .g = 5}},
+    {"offset 30", {.a = 4, .b = 7, .n = N, .k = 3, .g = N}},
+};
+static const cavzemil_window window = {.x = X, .y = Y, .columns = WIDE, .rows = HIGH};
+static const struct { uint8_t c, m, y; } tint = {.c = 51, .m = 204, .y = 102};
+static const uint8_t input[3 * CELLS] = {
+    51,  102, 204, 200, 90,  140, 13,  77,  250, 255, 255, 0,   0,   0,  0,
+    128, 0,   128, 9,   240, 31,  180, 180, 180, 60,  0,   0,   0,   99, 201,
+    250, 240, 230, 77,  13,  128, 40,  160, 80,  90,  10,  170, 222, 33, 111,
+};
+static const uint8_t cells[] = {0, 1, 2, 3, 4, 5, 6, 7, 7, 0, 5, 2, 7, 4, 1, 6, 3, 0, 6, 1, 3, 5, 8};
+static const double primaries[VALUES] = {
+    22.1, 28.3, 90.7, 38,   20.2, 17.6, 76.9, 82.4, 10.3, 8.8, 6.1,  30,
+    9.5,  17.7, 8.2,  32.9, 18.4, 4.6,  2,    2.5,  2.7,  88,  92.3, 98.1,
+};
+
+/* Prints the function, what is particular in this call, and the refusal. */
+static void print_call(const char *function, const char *call, uint32_t refusal) {
+    printf("%s, %s: refusal %" PRIu32, function, call, refusal);
+}
+
+/* Prints a run of bytes after its name. */
+static void print_bytes(const char *name, const uint8_t *bytes, size_t length) {
+    printf("; %s", name);
+    for (size_t place = 0; place < length; place++) {
+        printf(" %d", bytes[place]);
+    }
+}
+
+/* Ends a line with a whole brick buffer. */
+static void print_buffer(const uint16_t brick[PLACES]) {
+    printf("; brick");
+    for (int place = 0; place < PLACES; place++) {
+        printf(" %d", brick[place]);
+    }
+    printf("\n");
+}
+
+/* Prints a rendering. */
+static void print_rendering(const char *function, const char *call, cavzemil_rendering rendering) {
+    print_call(function, call, rendering.refusal);
+    printf(", tallies");
+    for (int colorant = 0; colorant < 8; colorant++) {
+        printf(" %" PRIu64, rendering.tallies[colorant]);
+    }
+}
+
+/* Prints the bits of a value after its name. */
+static void print_value(const char *name, double value) {
+    uint64_t bits;
+    memcpy(&bits, &value, sizeof bits);
+    printf(", %s %016" PRIx64, name, bits);
+}
+
+/* Prints the phase of a place. */
+static void show_place(const char *call, cavzemil_screen s, uint32_t x, uint32_t y) {
+    cavzemil_place place = cavzemil_phase_at(s, x, y);
+    print_call("phase_at", call, place.refusal);
+    printf(", phase %" PRIu32 "\n", place.phase);
+}
+
+/* Prints the sizes of a brick. */
+static void show_brick(const char *call, cavzemil_screen s) {
+    cavzemil_brick brick = cavzemil_brick_of(s);
+    print_call("brick_of", call, brick.refusal);
+    printf(", columns %" PRIu32 ", rows %" PRIu32 ", shift %" PRIu32 "\n", brick.columns, brick.rows, brick.shift);
+}
+
+/* Fills a brick buffer of which so many places are lent, and prints the whole of it. */
+static void show_filling(const char *call, cavzemil_screen s, size_t places) {
+    uint16_t brick[PLACES];
+    memset(brick, UNWRITTEN, sizeof brick);
+    print_call("fill_brick", call, cavzemil_fill_brick(s, brick, places));
+    print_buffer(brick);
+}
+
+/* Prints the counts of the tint. */
+static void show_counts(const char *call, cavzemil_screen s, uint32_t separation) {
+    cavzemil_counts counts = cavzemil_counts_of(s, separation, tint.c, tint.m, tint.y);
+    print_call("counts_of", call, counts.refusal);
+    printf(", of");
+    for (int colorant = 0; colorant < 8; colorant++) {
+        printf(" %" PRIu32, counts.of[colorant]);
+    }
+    printf("\n");
+}
+
+/* Prints the colorant of a place that has the tint. */
+static void show_cell(const char *call, cavzemil_screen s, uint32_t separation, uint32_t x, uint32_t y) {
+    cavzemil_cell cell = cavzemil_cell_at(s, separation, x, y, tint.c, tint.m, tint.y);
+    print_call("cell_at", call, cell.refusal);
+    printf(", colorant %" PRIu32 "\n", cell.colorant);
+}
+
+/* Renders a window, phases worked out, and prints the rendering and the output. */
+static void show_window(const char *call, cavzemil_screen s, uint32_t separation, cavzemil_window w,
+                        size_t input_length, size_t out_length) {
+    uint8_t out[CELLS + GUARDS];
+    memset(out, UNWRITTEN, sizeof out);
+    print_rendering("render", call, cavzemil_render(s, separation, w, input, input_length, out, out_length));
+    print_bytes("out", out, sizeof out);
+    printf("\n");
+}
+
+/* Renders the window, phases read from the brick buffer of the screen above, of which so many places are lent, and
+   prints the rendering, the output and the buffer. */
+static void show_brick_window(const char *call, cavzemil_screen s, uint32_t separation, size_t places) {
+    uint16_t filled[PLACES] = {0};
+    const uint16_t *brick = filled;
+    uint8_t out[CELLS + GUARDS];
+    cavzemil_fill_brick(screen, filled, PLACES);
+    memset(out, UNWRITTEN, sizeof out);
+    print_rendering("render_brick", call,
+                    cavzemil_render_brick(s, separation, window, input, sizeof input, brick, places, out, CELLS));
+    print_bytes("out", out, sizeof out);
+    print_buffer(brick);
+}
+
+/* Prints the colour predicted for the tint. */
+static void show_colour(const char *call, cavzemil_screen s, uint32_t separation, const double *xyz, size_t values) {
+    cavzemil_prediction colour = cavzemil_predict(s, separation, tint.c, tint.m, tint.y, xyz, values);
+    print_call("predict", call, colour.refusal);
+    printf(", colorant %" PRIu32, colour.colorant);
+    print_value("x", colour.x);
+    print_value("y", colour.y);
+    print_value("z", colour.z);
+    printf("\n");
+}
+
+/* Packs cells into planes, and prints the planes. */
+static void show_packing(const char *call, const uint8_t *from, size_t from_length, size_t planes_length) {
+    uint8_t planes[PLANES + GUARDS];
+    memset(planes, UNWRITTEN, sizeof planes);
+    print_call("pack", call, cavzemil_pack(PLATE_WIDE, PLATE_HIGH, from, from_length, planes, planes_length));
+    print_bytes("planes", planes, sizeof planes);
+    printf("\n");
+}
+
+/* Unpacks planes into cells, and prints the cells and the planes. */
+static void show_unpacking(const char *call, const uint8_t *planes, size_t planes_length, size_t to_length) {
+    uint8_t to[PLATE_CELLS + GUARDS];
+    memset(to, UNWRITTEN, sizeof to);
+    print_call("unpack", call, cavzemil_unpack(PLATE_WIDE, PLATE_HIGH, planes, planes_length, to, to_length));
+    print_bytes("cells", to, sizeof to);
+    print_bytes("planes", planes, PLANES);
+    printf("\n");
+}
+
+/* Prints a colorant's constant, and the colorant of a place that has its inks in full. */
+static void show_full_tone(const char *name, uint32_t colorant, uint8_t c, uint8_t m, uint8_t y) {
+    cavzemil_cell cell = cavzemil_cell_at(screen, CAVZEMIL_DEMICHEL, X, Y, c, m, y);
+    print_call("cell_at", name, cell.refusal);
+    printf(", colorant %" PRIu32 ", constant %" PRIu32 "\n", cell.colorant, colorant);
+}
+
+/* Prints the constants by their names. */
+static void show_constants(void) {
+    printf("CAVZEMIL_DEMICHEL %d\nCAVZEMIL_KUEPPERS %d\n", CAVZEMIL_DEMICHEL, CAVZEMIL_KUEPPERS);
+    show_full_tone("CAVZEMIL_CYAN", CAVZEMIL_CYAN, 255, 0, 0);
+    show_full_tone("CAVZEMIL_MAGENTA", CAVZEMIL_MAGENTA, 0, 255, 0);
+    show_full_tone("CAVZEMIL_YELLOW", CAVZEMIL_YELLOW, 0, 0, 255);
+    show_full_tone("CAVZEMIL_BLUE", CAVZEMIL_BLUE, 255, 255, 0);
+    show_full_tone("CAVZEMIL_GREEN", CAVZEMIL_GREEN, 255, 0, 255);
+    show_full_tone("CAVZEMIL_RED", CAVZEMIL_RED, 0, 255, 255);
+    show_full_tone("CAVZEMIL_BLACK", CAVZEMIL_BLACK, 255, 255, 255);
+    show_full_tone("CAVZEMIL_WHITE", CAVZEMIL_WHITE, 0, 0, 0);
+}
+
+/* Prints what every call with a screen and no separation answers. */
+static void show_screen(const char *call, cavzemil_screen s) {
+    show_place(call, s, X, Y);
+    show_brick(call, s);
+    show_filling(call, s, N + 1);
+}
+
+/* Prints what every call with a screen and a separation answers. */
+static void show_separation(const char *call, cavzemil_screen s, uint32_t separation) {
+    show_counts(call, s, separation);
+    show_cell(call, s, separation, X, Y);
+    show_window(call, s, separation, window, sizeof input, CELLS);
+    show_brick_window(call, s, separation, N + 1);
+    show_colour(call, s, separation, primaries, VALUES);
+}
+
+/* Prints what is answered where a place, a window, a length or a primary is too much, and at the sheet's end. */
+static void show_limits(void) {
+    const cavzemil_window last = {.x = SHEET - WIDE, .y = SHEET - HIGH, .columns = WIDE, .rows = HIGH};
+    const cavzemil_window beyond = {.x = SHEET - WIDE + 1, .y = Y, .columns = WIDE, .rows = HIGH};
+    double values[VALUES];
+    show_place("beyond the sheet", screen, X, SHEET);
+    show_filling("brick too short", screen, N - 1);
+    show_cell("beyond the sheet", screen, CAVZEMIL_KUEPPERS, SHEET, Y);
+    show_window("last of the sheet", screen, CAVZEMIL_KUEPPERS, last, sizeof input, CELLS);
+    show_window("beyond the sheet", screen, CAVZEMIL_KUEPPERS, beyond, sizeof input, CELLS);
+    show_window("input too short", screen, CAVZEMIL_KUEPPERS, window, sizeof input - 1, CELLS);
+    show_window("output too long", screen, CAVZEMIL_KUEPPERS, window, sizeof input, CELLS + 1);
+    show_brick_window("brick too short", screen, CAVZEMIL_KUEPPERS, N - 1);
+    show_colour("primaries too short", screen, CAVZEMIL_KUEPPERS, primaries, VALUES - 1);
+    memcpy(values, primaries, sizeof values);
+    values[3 * CAVZEMIL_GREEN + 1] = 200.5;
+    show_colour("green too bright", screen, CAVZEMIL_KUEPPERS, values, VALUES);
+}
+
+/* Prints plates packed and unpacked, and what refuses them; the last of the cells, an 8, is one too many. */
+static void show_plates(void) {
+    uint8_t planes[PLANES];
+    show_packing("served", cells, PLATE_CELLS, PLANES);
+    show_packing("cells too short", cells, PLATE_CELLS - 1, PLANES);
+    show_packing("planes too long", cells, PLATE_CELLS, PLANES + 1);
+    show_packing("a cell of 8", cells + 1, PLATE_CELLS, PLANES);
+    cavzemil_pack(PLATE_WIDE, PLATE_HIGH, cells, PLATE_CELLS, planes, PLANES);
+    show_unpacking("served", planes, PLANES, PLATE_CELLS);
+    show_unpacking("planes too short", planes, PLANES - 1, PLATE_CELLS);
+    show_unpacking("cells too long", planes, PLANES, PLATE_CELLS + 1);
+    planes[1] |= 1;
+    show_unpacking("padding set", planes, PLANES, PLATE_CELLS);
+}
+
+/* Prints what a window and plates without cells answer, every pointer null. */
+static void show_nothing_lent(void) {
+    const cavzemil_window empty = {.x = X, .y = Y, .columns = 0, .rows = HIGH};
+    print_rendering("render", "nothing lent", cavzemil_render(screen, CAVZEMIL_KUEPPERS, empty, NULL, 0, NULL, 0));
+    printf("\n");
+    print_call("pack", "nothing lent", cavzemil_pack(0, HIGH, NULL, 0, NULL, 0));
+    printf("\n");
+    print_call("unpack", "nothing lent", cavzemil_unpack(WIDE, 0, NULL, 0, NULL, 0));
+    printf("\n");
+}
+
+/* Prints the number of the rules, the constants, and what each screen and the rest of the calls answer. */
+int main(void) {
+    printf("rules %" PRIu32 "\n", cavzemil_rules());
+    show_constants();
+    show_screen("served", screen);
+    show_separation("demichel", screen, CAVZEMIL_DEMICHEL);
+    show_separation("kueppers", screen, CAVZEMIL_KUEPPERS);
+    show_separation("separation 2", screen, 2);
+    for (size_t at = 0; at < sizeof refused / sizeof refused[0]; at++) {
+        show_screen(refused[at].call, refused[at].s);
+        show_separation(refused[at].call, refused[at].s, CAVZEMIL_DEMICHEL);
+    }
+    show_limits();
+    show_plates();
+    show_nothing_lent();
+    return 0;
+}
