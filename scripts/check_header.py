@@ -11,6 +11,7 @@ import re
 import sys
 from glob import glob
 
+from files import read
 from rules import COLORANTS, COLOURS, SEPARATIONS
 
 HEADER = "include/cavzemil.h"
@@ -32,11 +33,6 @@ FRAME = {
     "#ifndef CAVZEMIL_H", "#define CAVZEMIL_H", "#include <stddef.h>", "#include <stdint.h>", "#ifdef __cplusplus",
     'extern "C" {', "}", "#endif", "",
 }
-
-
-def read(path):
-    with open(path, encoding="utf-8") as file:
-        return file.read()
 
 
 def c_name(name):

@@ -13,13 +13,10 @@ import re
 import subprocess
 import sys
 
+from files import read
+
 # a comment line or none, an empty line or none, then a fenced block or one of indented lines
 BLOCK = re.compile(r"(?:^<!-- (?P<mark>.*) -->\n)?\n?(?:^```.*\n(?P<fenced>(?:.*\n)*?)```$|(?P<indented>(?:^    .*\n|^\n(?=    ))+))", re.MULTILINE)
-
-
-def read(path):
-    with open(path, encoding="utf-8") as file:
-        return file.read()
 
 
 def blocks(page):

@@ -1,8 +1,8 @@
 """Checks that rules are cited as they are numbered, and that none is lost: run in the repository's root.
 
 Every rule that is cited anywhere stands in docs/RULES.md, the rules there are numbered without a gap and carry the number that is in
-force, each has a row in docs/PROMISES.md, the must-fail edits named there are those that there are, and links between the pages lead
-somewhere. Says what is wrong, and exits 1 where anything is.
+force, each has a row in docs/PROMISES.md, the definitions named there exist, the must-fail edits named there are those that there are, and
+links between the pages lead somewhere. Says what is wrong, and exits 1 where anything is.
 """
 
 import os
@@ -10,19 +10,17 @@ import re
 import sys
 from glob import glob
 
+from files import read
 from rules import RULES_IN_FORCE
 
 SKIPPED = {".git", "target"}
 # `rule 3.2`, `rules 3.2 and 3.4`, `rules 3.1, 3.2 and 3.6`, `rules 3.2 to 3.5`
 CITED = re.compile(r"\brules? (\d+\.\d+(?:(?:,| and| to) \d+\.\d+)*)", re.IGNORECASE)
 NUMBER = re.compile(r"\d+\.\d+")
+# a name in Rattle or in the definitions
+WORD = re.compile(r"[A-Za-z_][\w-]*")
 # the marks with which a comment goes on in the next line
 NEXT_LINE = re.compile(r"\n[ \t]*(?:--|//[/!]?|\*|#)?[ \t]*")
-
-
-def read(path):
-    with open(path, encoding="utf-8") as file:
-        return file.read()
 
 
 def files():
@@ -82,15 +80,30 @@ def wrong_promises(numbers):
             yield f"docs/PROMISES.md: the row for rule {number} is one too many"
 
 
+def cells(column):
+    """The cells of a column of PROMISES.md's tables, the last being -1."""
+    rows = [line.strip("| ").split(" | ") for line in read("docs/PROMISES.md").splitlines() if line.startswith("| ")]
+    return [row[column] for row in rows]
+
+
 def wrong_edits():
     """The must-fail edits that PROMISES.md names as catching something are those of the crates."""
     there = {os.path.basename(path)[: -len(".edit")] for path in glob("crates/*/must-fail/*.edit")}
-    last = re.findall(r"^\|.*\| ([^|]*) \|$", read("docs/PROMISES.md"), re.MULTILINE)
-    named = {name for cell in last for name in re.findall(r"`([a-z0-9]+(?:_[a-z0-9]+)+)`", cell)}
+    named = {name for cell in cells(-1) for name in re.findall(r"`([a-z0-9]+(?:_[a-z0-9]+)+)`", cell)}
     for name in sorted(named - there):
         yield f"docs/PROMISES.md: there is no edit {name}"
     for name in sorted(there - named):
         yield f"docs/PROMISES.md: the edit {name} is not named"
+
+
+def wrong_names():
+    """What PROMISES.md names as stating a rule is in the crates' code or definitions."""
+    paths = glob("crates/*/src/**/*.rt", recursive=True) + glob("crates/*/specs/**/*.antt", recursive=True)
+    words = {word for path in paths for word in WORD.findall(read(path))}
+    for cell in cells(-2):
+        for code in re.findall(r"`([^`]*)`", cell):
+            for name in set(WORD.findall(code)) - words:
+                yield f"docs/PROMISES.md: there is no {name}"
 
 
 def anchors(text):
@@ -112,7 +125,8 @@ def wrong_links():
 def main():
     numbers = rule_numbers()
     wrong = [
-        *wrong_numbering(numbers), *wrong_force(), *wrong_citations(numbers), *wrong_promises(numbers), *wrong_edits(), *wrong_links(),
+        *wrong_numbering(numbers), *wrong_force(), *wrong_citations(numbers), *wrong_promises(numbers), *wrong_edits(),
+        *wrong_names(), *wrong_links(),
     ]
     print("\n".join(wrong) if wrong else f"rules: {len(numbers)} rules, each with its row, and no other is cited")
     sys.exit(bool(wrong))

@@ -1,6 +1,6 @@
 """Prints where the time of the check goes, as a table: run in the repository's root.
 
-    python3 scripts/times.py LOG OUTSIDE WALL
+    python3 -B scripts/times.py LOG OUTSIDE WALL
 
 LOG is what `rt ci` printed; OUTSIDE and WALL are the seconds of the tests from outside and of everything. A crate's row has the seconds of its
 proof, the number and the seconds of its must-fail edits, and its lines of code, definitions and proofs (src/, specs/ and proofs/).
@@ -11,16 +11,15 @@ import re
 import sys
 from glob import glob
 
+from files import read
+
 COLUMNS = "proof s", "edits", "edits s", "code", "definitions", "proofs"
 
 
 def lines(crate, folder, suffix):
     """How many lines the files of a crate's folder have."""
-    total = 0
-    for path in glob(f"crates/{crate}/{folder}/**/*{suffix}", recursive=True):
-        with open(path, encoding="utf-8") as file:
-            total += len(file.readlines())
-    return total
+    paths = glob(f"crates/{crate}/{folder}/**/*{suffix}", recursive=True)
+    return sum(read(path).count("\n") for path in paths)
 
 
 def rows(log):
@@ -37,8 +36,7 @@ def line(name, cells):
 
 def main():
     path, outside, wall = sys.argv[1:]
-    with open(path, encoding="utf-8") as file:
-        found = list(rows(file.read()))
+    found = list(rows(read(path)))
     print(line("crate", COLUMNS))
     for crate, numbers in found:
         print(line(crate, numbers))
