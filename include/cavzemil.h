@@ -78,7 +78,7 @@ typedef struct { uint32_t refusal; uint32_t colorant; double x, y, z; } cavzemil
    order, they have in them. Two houses whose numbers are the same follow the same rules. */
 uint32_t cavzemil_rules(void);
 
-/* The phase of column x and row y (rule 2.2): a x - b y - g mod n, 0 to n - 1. Refusals 1 to 5. */
+/* The phase of column x and row y (rule 2.2): (a x - b y - g) mod n, 0 to n - 1. Refusals 1 to 5. */
 cavzemil_place cavzemil_phase_at(cavzemil_screen s, uint32_t x, uint32_t y);
 
 /* The brick's sizes (rule 3.5); its columns times its rows are n. Refusals 1 to 4. */

@@ -8,7 +8,7 @@ use Rattle.plates.specs.Planes.{bitAt, colorantOf}
 use Rattle.plates.specs.Refusals.{packRefusal, unpackRefusal, packed, unpacked}
 use Rattle.plates.specs.Laws.{PlaneBit, bitsSet, PlaneTally}
 
--- two columns by two rows: cyan and magenta, then magenta and white
+-- rule 12.9, two columns by two rows: cyan and magenta, then magenta and white
 abbrev pub cells : List ℕ
 cells = 0 ∷ 1 ∷ 1 ∷ 7 ∷ []
 

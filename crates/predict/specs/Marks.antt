@@ -57,7 +57,7 @@ pub record Marks : Type 0 where
   pub limit-good : within limit ≡ true
   -- a sum begun at -0 would stay there
   pub begun : total 1 (λ j. 26) (λ j. minusZero) ≡ plusZero
-  -- counts 26, 26, 0, 27, 0, 0, 0, 26: from the last colorant on it would end in 39, divided before the sum in 3a
+  -- rule 12.10, counts 26, 26, 0, 27, 0, 0, 0, 26: from the last colorant on it would end in 39, divided before the sum in 3a
   pub uneven-x : channel (λ j. getD (26 ∷ 26 ∷ 0 ∷ 27 ∷ 0 ∷ 0 ∷ 0 ∷ 26 ∷ []) j 0) 105 (λ j. primary primaries j .x) ≡ ofBits binary64 0x3fbff0656cbd323b
   pub uneven : predicted listed Demichel half primaries ≡ Colour (ofBits binary64 0x3fbff0656cbd323b) plusZero limit
   pub full-tone : predicted listed Kueppers cyan primaries ≡ Colour tenth plusZero limit

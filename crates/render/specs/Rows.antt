@@ -1,5 +1,5 @@
--- What the functions below the two renderers ask and promise (rules 7.6 and 7.7). A row's functions know no screen, only how many cells it has and a table
--- with the thresholds of its phases; what they write is said by the rule, for the screen that the table is of.
+-- What the functions below the two renderers ask and promise (rules 7.6 and 7.7). A row's functions know no screen, only how many cells
+-- it has and a table with the thresholds of its phases; what they write is said by the rule, for the screen that the table is of.
 -- Assumes nothing: these are definitions.
 use Prim.Native.Nat.{ℕ, _+_, _*_, _≤_, _<_}
 use mathlib.Core.Path.{_≡_}
