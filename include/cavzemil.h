@@ -78,7 +78,7 @@ typedef struct { uint32_t refusal; uint32_t colorant; double x, y, z; } cavzemil
    order, they have in them. Two houses whose numbers are the same follow the same rules. */
 uint32_t cavzemil_rules(void);
 
-/* The phase of column x and row y (rule 2.2): (a x - b y - g) mod n, 0 to n - 1. Refusals 1 to 5. */
+/* The phase of column x and row y (rules 2.2 and 2.4): (a x - b y - g) mod n, 0 to n - 1. Refusals 1 to 5. */
 cavzemil_place cavzemil_phase_at(cavzemil_screen s, uint32_t x, uint32_t y);
 
 /* The brick's sizes (rule 3.5); its columns times its rows are n. Refusals 1 to 4. */
@@ -88,8 +88,8 @@ cavzemil_brick cavzemil_brick_of(cavzemil_screen s);
    (u, v). Places from n on stay as they are. Answers the refusal: 1 to 4, 8. */
 uint32_t cavzemil_fill_brick(cavzemil_screen s, uint16_t *brick, size_t brick_len);
 
-/* How many of n cells each colorant gets for the ink values c, m, y, 255 being full (rule 5.4). Refusals
-   100, 1 to 4. */
+/* How many of n cells each colorant gets for the ink values c, m, y, 255 being full (rules 5.4 and 5.5).
+   Refusals 100, 1 to 4. */
 cavzemil_counts cavzemil_counts_of(cavzemil_screen s, uint32_t separation, uint8_t c, uint8_t m, uint8_t y);
 
 /* The colorant of column x and row y for these ink values (rule 7.8). Refusals 100, 1 to 5. */

@@ -1,12 +1,13 @@
-"""Checks that the repository's pages show what there is: run in the repository's root, after the archive and `counts` are built.
+"""Checks that README.md and docs/RULES.md show what there is: run in the repository's root, once `counts` and the archive
+are built.
 
 A block of a page is indented by four spaces or fenced. A comment in the line above it says what it shows:
 
     <!-- file: PATH -->    the whole file, ⇥ standing for a tab
     <!-- not run -->       commands or lines that are for the reader alone
 
-A block that begins with `$ ` is a transcript: each line with `$ ` is run by bash, and the lines after it are what it must print on standard
-output. Every block of README.md is one of the three; in docs/RULES.md only those with a comment are looked at.
+A block that begins with `$ ` is a transcript: each line with `$ ` is run by bash, and the lines after it are what it must
+print on standard output. Every block is one of the three.
 """
 
 import re
@@ -16,7 +17,11 @@ import sys
 from files import read
 
 # a comment line or none, an empty line or none, then a fenced block or one of indented lines
-BLOCK = re.compile(r"(?:^<!-- (?P<mark>.*) -->\n)?\n?(?:^```.*\n(?P<fenced>(?:.*\n)*?)```$|(?P<indented>(?:^    .*\n|^\n(?=    ))+))", re.MULTILINE)
+BLOCK = re.compile(
+    r"(?:^<!-- (?P<mark>.*) -->\n)?\n?"
+    r"(?:^```.*\n(?P<fenced>(?:.*\n)*?)```$|(?P<indented>(?:^    .*\n|^\n(?=    ))+))",
+    re.MULTILINE,
+)
 
 
 def blocks(page):
@@ -42,7 +47,7 @@ def wrong_transcript(page, text):
             yield f"{page}: `{command}` ends with {ran.returncode} and prints\n{ran.stdout}{ran.stderr}"
 
 
-def wrong_block(page, mark, text, all_marked):
+def wrong_block(page, mark, text):
     """What is wrong with a block."""
     if mark and mark.startswith("file: "):
         path = mark.removeprefix("file: ")
@@ -50,16 +55,16 @@ def wrong_block(page, mark, text, all_marked):
             yield f"{page}: the block is not the file {path}"
     elif text.startswith("$ "):
         yield from wrong_transcript(page, text)
-    elif mark != "not run" and all_marked:
+    elif mark != "not run":
         yield f"{page}: nothing says what this block shows:\n{text}"
 
 
 def main():
     wrong, seen = [], 0
-    for page, all_marked in ("README.md", True), ("docs/RULES.md", False):
+    for page in "README.md", "docs/RULES.md":
         for mark, text in blocks(page):
             seen += 1
-            wrong.extend(wrong_block(page, mark, text, all_marked))
+            wrong.extend(wrong_block(page, mark, text))
     print("\n".join(wrong) if wrong else f"pages: {seen} blocks, each what it shows")
     sys.exit(bool(wrong))
 

@@ -1,8 +1,9 @@
 """Checks that rules are cited as they are numbered, and that none is lost: run in the repository's root.
 
-Every rule that is cited anywhere stands in docs/RULES.md, the rules there are numbered without a gap and carry the number that is in
-force, each has a row in docs/PROMISES.md, the definitions named there exist, the must-fail edits named there are those that there are, and
-links between the pages lead somewhere. Says what is wrong, and exits 1 where anything is.
+Every rule that is cited anywhere stands in docs/RULES.md, the rules there are numbered without a gap and carry the number
+that is in force, each has a row in docs/PROMISES.md, the definitions named there exist, the must-fail edits named there
+are those that there are, no public function asks anything of its caller, and links between the pages lead somewhere. Says
+what is wrong, and exits 1 where anything is.
 """
 
 import os
@@ -14,11 +15,14 @@ from files import read
 from rules import RULES_IN_FORCE
 
 SKIPPED = {".git", "target"}
-# `rule 3.2`, `rules 3.2 and 3.4`, `rules 3.1, 3.2 and 3.6`, `rules 3.2 to 3.5`
-CITED = re.compile(r"\brules? (\d+\.\d+(?:(?:,| and| to) \d+\.\d+)*)", re.IGNORECASE)
+# `rule 3.2`, `rules 3.2 and 3.4`, `rules 3.1, 3.2 or 3.6`, `rules 3.2 to 3.5`
+CITED = re.compile(r"\brules? (\d+\.\d+(?:(?:,? and|,? or|,| to) \d+\.\d+)*)", re.IGNORECASE)
 NUMBER = re.compile(r"\d+\.\d+")
 # a name in Rattle or in the definitions
 WORD = re.compile(r"[A-Za-z_][\w-]*")
+COMMENT = re.compile(r"(?:--|//).*")
+# a public function's name, and all that stands before its body
+PUBLIC = re.compile(r'^pub (?:extern "C" )?fn (\w+)(.*?)^\{', re.MULTILINE | re.DOTALL)
 # the marks with which a comment goes on in the next line
 NEXT_LINE = re.compile(r"\n[ \t]*(?:--|//[/!]?|\*|#)?[ \t]*")
 
@@ -99,11 +103,19 @@ def wrong_edits():
 def wrong_names():
     """What PROMISES.md names as stating a rule is in the crates' code or definitions."""
     paths = glob("crates/*/src/**/*.rt", recursive=True) + glob("crates/*/specs/**/*.antt", recursive=True)
-    words = {word for path in paths for word in WORD.findall(read(path))}
+    words = {word for path in paths for word in WORD.findall(COMMENT.sub("", read(path)))}
     for cell in cells(-2):
         for code in re.findall(r"`([^`]*)`", cell):
             for name in set(WORD.findall(code)) - words:
                 yield f"docs/PROMISES.md: there is no {name}"
+
+
+def wrong_requires():
+    """A public function takes every input (rule 11.1), so that its contract has no `requires`."""
+    for path in glob("crates/*/src/**/*.rt", recursive=True):
+        for name, contract in PUBLIC.findall(COMMENT.sub("", read(path))):
+            if "requires" in contract:
+                yield f"{path}: the public function {name} has a requires"
 
 
 def anchors(text):
@@ -126,7 +138,7 @@ def main():
     numbers = rule_numbers()
     wrong = [
         *wrong_numbering(numbers), *wrong_force(), *wrong_citations(numbers), *wrong_promises(numbers), *wrong_edits(),
-        *wrong_names(), *wrong_links(),
+        *wrong_names(), *wrong_requires(), *wrong_links(),
     ]
     print("\n".join(wrong) if wrong else f"rules: {len(numbers)} rules, each with its row, and no other is cited")
     sys.exit(bool(wrong))

@@ -2,9 +2,10 @@
 
     python3 -B scripts/times.py LOG OUTSIDE WALL
 
-LOG is what `rt ci` printed; OUTSIDE and WALL are the seconds of the tests from outside and of everything. A crate's row has the seconds of its
-proof, the number and the seconds of its must-fail edits, and its lines of code, definitions and proofs (src/, specs/ and proofs/).
-Proofs and edits run two or more at a time where there are as many cores, so that the sum may be above the wall clock.
+LOG is what `rt ci` printed; OUTSIDE and WALL are the seconds of the tests from outside and of everything. A crate's row has
+the seconds of its proof, the number and the seconds of its must-fail edits, and its lines of code, definitions and proofs
+(src/, specs/ and proofs/). Proofs and edits run two or more at a time where there are as many cores, so that the sum may be
+above the wall clock.
 """
 
 import re

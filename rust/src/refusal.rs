@@ -32,9 +32,9 @@ pub enum Refusal {
     Offset,
     /// 5: a window, a lone place or a plate reaches beyond the sheet's 65,536 columns or rows.
     OffSheet,
-    /// 6: the input's length isn't the stated one.
+    /// 6: the run that is read hasn't the length that the columns and rows give.
     InputLength,
-    /// 7: the output's length isn't the stated one.
+    /// 7: the run that is written hasn't the length that the columns and rows give.
     OutputLength,
     /// 8: the brick buffer is shorter than N places, or a renderer finds a wrong phase among its first N.
     Brick,

@@ -63,7 +63,10 @@ def main():
     if any(ways := seen("right", Path(HEADER).read_text(), expected)):
         sys.exit(f"{HEADER}: {'; '.join(filter(None, ways))}")
     missed = []
-    for edit in sorted(Path("tests/c/wrong-headers").glob("*.edit")):
+    edits = sorted(Path("tests/c/wrong-headers").glob("*.edit"))
+    if not edits:
+        sys.exit("tests/c/wrong-headers: there is no wrong header to try")
+    for edit in edits:
         program, comparison = ways = seen(edit.stem, edited(edit), expected)
         print(f"{edit.stem}: {'; '.join(filter(None, ways)) or 'not noticed'}")
         if not (comparison if edit.stem in LOST_IN_COMPILING else program):

@@ -17,7 +17,7 @@ use Rattle.cavzemil.specs.Screens.{screenOf, screenLaid, placeLaid, bric
 use Rattle.cavzemil.specs.Windows.{cellAnswer, renderAnswer, renderOutput, brickAnswer, brickOutput}
 use Rattle.cavzemil.specs.Colours.{countsAnswer, colourless, predictAnswer}
 
--- the screen of the listing, one whose slope is not in lowest terms, and one of a single cell, whose brick is the phase 0
+-- rule 12.8's screen, one whose slope is not in lowest terms, and one of a single cell, whose brick is the phase 0
 abbrev pub listed : Screen
 listed = screenLaid Screens.listed
 

@@ -1,4 +1,4 @@
--- Rules 10.3 to 10.7: what a line holds, and what refuses it.
+-- Rules 10.3 to 10.8: what a line holds, and what refuses it.
 -- Assumes nothing: these are definitions.
 use Prim.Native.Nat.{ℕ}
 use mathlib.Core.Bool.{Bool, cond, not, _&&_, _||_}

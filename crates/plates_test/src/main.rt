@@ -153,7 +153,7 @@ fn unpacking_sizes() {
     show_unpacking(4294967295, 4294967295, 1, 1, &PLANES);
 }
 
-// Refusal 9 of unpacking: the table's example; a pixel in no plane, in two, and both with as many bits as pixels.
+// Refusal 9 of unpacking: rule 11.13's example; a pixel in no plane, in two, and both with as many bits as pixels.
 fn pixels() {
     let mut planes = PLANES;
     planes[0] = 128;

@@ -91,7 +91,7 @@ pub fn render_brick(
     }
 }
 
-// The colorant of a lone place, which is a 1 by 1 window.
+// The colorant of a lone place, rendered as a window of one cell.
 pub fn cell_at(s: Screen, sep: Separation, x: u32, y: u32, inks: Inks) -> Cell
     ensures { λ r. ⌜ r ≡ loneCell s sep x y inks ⌝ }
 {

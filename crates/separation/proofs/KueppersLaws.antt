@@ -79,7 +79,7 @@ no-others : (inks : Inks) (single double : ℕ) → EachOfSix (Other inks single
     → (j : ℕ) → j < 8 → j ≢ 6 → j ≢ double → j ≢ single → j ≢ 7 → w inks j ≡ 0
 no-others inks s d p j h n6 nd ns n7 = rw (ne-eqb j d nd, ne-eqb j s ns) at (below-six (Other inks s d) p j (omega arith))
 
--- RULE 4.4 by the order of the values, for each of the six orders
+-- rule 4.4 by the order of the values, for each of the six orders
 pub kueppers-words : KueppersWords
 unfolding weight
 kueppers-words inks v _ _ _ _ _ c-m-y p q = search (arith, no-others inks 2 5 (omega arith))

@@ -1,5 +1,5 @@
-//! The worked examples (rules 12.1 to 12.7), the example of each refusal (rules 11.5 to 11.15), and some
-//! small plates and colours.
+//! The worked examples (rules 12.1 to 12.7, 12.9 and 12.10), the examples of refusals (rules 11.5 to 11.13
+//! and rule 11.15), and some small plates and colours.
 
 use super::{DEMICHEL, KUEPPERS};
 use crate::subject::{
@@ -160,6 +160,24 @@ fn plates_set_the_bit_of_each_pixel() {
     assert_eq!(pack(10, 1, &cells, &mut planes), 0);
     assert_eq!(planes, [128, 128, 64, 0, 32, 0, 16, 0, 8, 0, 4, 0, 2, 0, 1, 64]);
     assert_eq!(pack(10, 1, &[8; 10], &mut planes), 9);
+}
+
+/// Rule 12.9.
+#[test]
+fn planes_are_the_worked_ones() {
+    let mut planes = [255; 16];
+    assert_eq!(pack(2, 2, &[0, 1, 1, 7], &mut planes), 0);
+    assert_eq!(planes, [128, 0, 64, 128, 0, 0, 0, 0, 0, 0, 0, 0, 0, 0, 0, 64]);
+}
+
+/// Rule 12.10.
+#[test]
+fn a_colour_has_the_worked_bits() {
+    let mut primaries = [0.1, -0.0, 200.0].repeat(8);
+    primaries[21] = 0.2;
+    let colour = predict(four_sevenths(105), DEMICHEL, FIRST_INKS, &primaries);
+    assert_eq!((colour.refusal, colour.colorant), (0, 0));
+    assert_eq!(colour.xyz.map(f64::to_bits), [0x3FBF_F065_6CBD_323B, 0, 200.0f64.to_bits()]);
 }
 
 /// Rule 11.15.
