@@ -22,7 +22,7 @@
  *    11  a primary's value is a NaN or beyond 0 to 200
  *   100  the separation is neither 0 nor 1; tested before all else (rule 14.3)
  *
- * (10 belongs to the program counts alone.) A call that takes a screen begins with 1 to 4.
+ * (10 belongs to the program counts alone.) 1 to 4 are tested wherever a screen is handed in.
  */
 #ifndef CAVZEMIL_H
 #define CAVZEMIL_H
