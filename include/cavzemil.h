@@ -6,7 +6,7 @@
  * is an empty run. Runs that are handed to one call and of which one is written must not overlap, and
  * cavzemil_predict asks for IEEE 754's default mode: to nearest, subnormal numbers kept (rule 14.2).
  *
- * Refusals (rules 11.1 to 11.15). Each answer has a refusal, 0 where there is none; else it is the lowest number
+ * Refusals (rules 11.1 to 11.17). Each answer has a refusal, 0 where there is none; else it is the lowest number
  * that applies, every other number in the answer is 0 (refusal 11 carries its colorant), and lent memory stays
  * as it was.
  *
@@ -15,11 +15,13 @@
  *     3  the number of subscreens k: it needs 1 to 16, and at most n
  *     4  the offset g: it needs to be below n
  *     5  x + columns or y + rows is above 65536; a lone place counts as a window of 1 by 1, and plates begin at 0, 0
- *     6  the run that is read has the wrong length
+ *     6  the run that is read has the wrong length; for cavzemil_charge_of, one that is no multiple of 8
  *     7  the run that is written has the wrong length
  *     8  the brick buffer has fewer than n places or, for cavzemil_render_brick, is not the screen's own brick
  *     9  packing: a cell is above 7; unpacking: a pixel is set in no plane or in several, or padding is set
  *    11  a primary's value is a NaN or beyond 0 to 200
+ *    12  a price is above 1000000
+ *    13  a job has no window or more than 1000, or the eight tallies of one add up to more than 4294967296
  *   100  the separation is neither 0 nor 1; tested before all else (rule 14.3)
  *
  * (10 belongs to the program counts alone.) 1 to 4 are tested wherever a screen is handed in.
@@ -74,6 +76,12 @@ typedef struct { uint32_t refusal; uint64_t tallies[8]; } cavzemil_rendering;
 /* A predicted colour; refusal 11 carries the first colorant that has a value beyond its limits. */
 typedef struct { uint32_t refusal; uint32_t colorant; double x, y, z; } cavzemil_prediction;
 
+/* Prices (rule 15.2): cents for a million cells, by colorant, each at most 1000000. */
+typedef struct { uint32_t of[8]; } cavzemil_prices;
+
+/* What a job costs, in whole cents. */
+typedef struct { uint32_t refusal; uint64_t cents; } cavzemil_charge;
+
 /* The number of the rules that this library follows (rule 14.1): how many of the change requests, in their
    order, they have in them. Two houses whose numbers are the same follow the same rules. */
 uint32_t cavzemil_rules(void);
@@ -126,6 +134,13 @@ uint32_t cavzemil_unpack(uint32_t columns, uint32_t rows, const uint8_t *planes,
    refused as 6 (rule 14.4). Refusals 100, 1 to 4, 6, 11. */
 cavzemil_prediction cavzemil_predict(cavzemil_screen s, uint32_t separation, uint8_t c, uint8_t m, uint8_t y,
                                      const double *primaries, size_t primaries_len);
+
+/* The charge of a job of 1 to 1000 windows (rules 15.1 to 15.4): each colorant's tallies are added up and paid at
+   its price, and only what the eight cost together is rounded, up to a whole cent. The run has eight tallies for
+   each window, by colorant, and they may be what a renderer answered (rule 15.6). Charged one by one, the windows
+   cost as much or more, by less than a cent a window (rule 15.5). A run of more than 1000 windows is not read.
+   Refusals 6, 12, 13. */
+cavzemil_charge cavzemil_charge_of(cavzemil_prices prices, const uint64_t *tallies, size_t tallies_len);
 
 #ifdef __cplusplus
 }

@@ -1,7 +1,7 @@
 /*
  * Screens a patch of three tints side by side and prints it, a letter a cell: C, M and Y for the single
  * inks, B, G and R for two of them, K for all three, a dot for white. Beside it stand the counts, the
- * tallies, the bytes of the first plate and a predicted colour.
+ * tallies, the bytes of the first plate, a predicted colour and what the ink costs.
  *
  * In the repository's root, with the archive made by `rt staticlib cavzemil`:
  *
@@ -82,6 +82,13 @@ static void print_colours(void) {
     printf("a bad primary: refusal %" PRIu32 ", colorant %" PRIu32 "\n", colour.refusal, colour.colorant);
 }
 
+/* Prints what the ink of the patch costs. */
+static void print_charge(const uint64_t tallies[8]) {
+    cavzemil_prices prices = {.of = {52000, 48000, 45000, 71000, 69000, 66000, 38000, 95000}};
+    cavzemil_charge charge = cavzemil_charge_of(prices, tallies, 8);
+    printf("ink of the patch (refusal %" PRIu32 "): %" PRIu64 " cents\n", charge.refusal, charge.cents);
+}
+
 /* Renders the patch from a brick and prints all of the above. */
 int main(void) {
     static uint8_t input[3 * CELLS], cells[CELLS];
@@ -108,5 +115,6 @@ int main(void) {
     print_numbers("tallies of the patch", rendering.tallies);
     print_plate(cells);
     print_colours();
+    print_charge(rendering.tallies);
     return 0;
 }

@@ -12,7 +12,9 @@
 //! assert_eq!(calls::counts_of(screen, 2, [51, 102, 204]).refusal, 100);
 //! ```
 
-use crate::ffi::{self, BrickSizes, Cell, Counts, Place, Prediction, Rendering, Screen, Window};
+use crate::ffi::{
+    self, BrickSizes, Cell, Charge, Counts, Place, Prediction, Prices, Rendering, Screen, Window,
+};
 
 /// The number of the rules that the linked archive follows (rule 14.1); see [`crate::RULES`].
 pub fn rules() -> u32 {
@@ -103,4 +105,11 @@ pub fn unpack(columns: u32, rows: u32, planes: &[u8], cells: &mut [u8]) -> u32 {
 pub fn predict(s: Screen, separation: u32, [c, m, y]: [u8; 3], primaries: &[f64]) -> Prediction {
     // SAFETY: the pointer comes with the length of its own slice.
     unsafe { ffi::cavzemil_predict(s, separation, c, m, y, primaries.as_ptr(), primaries.len()) }
+}
+
+/// The charge of a job (rule 15.4), from prices by colorant and its windows' tallies, eight a window; where 8
+/// does not divide their number, 6 is answered (rule 15.1).
+pub fn charge_of(prices: [u32; 8], tallies: &[u64]) -> Charge {
+    // SAFETY: the pointer comes with the length of its own slice.
+    unsafe { ffi::cavzemil_charge_of(Prices { of: prices }, tallies.as_ptr(), tallies.len()) }
 }

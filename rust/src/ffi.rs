@@ -91,6 +91,22 @@ pub struct Prediction {
     pub z: f64,
 }
 
+/// What a million cells of each colorant cost, in cents, at most 1,000,000 (rule 15.2).
+#[repr(C)]
+#[derive(Clone, Copy, Debug, PartialEq, Eq, Hash)]
+pub struct Prices {
+    /// The price of each colorant, by its number.
+    pub of: [u32; 8],
+}
+
+/// The answer of [`cavzemil_charge_of`], in whole cents.
+#[repr(C)]
+#[derive(Clone, Copy, Debug, PartialEq, Eq)]
+pub struct Charge {
+    pub refusal: u32,
+    pub cents: u64,
+}
+
 extern "C" {
     /// The number of the rules that the archive follows.
     pub fn cavzemil_rules() -> u32;
@@ -164,4 +180,7 @@ extern "C" {
         primaries: *const f64,
         primaries_len: usize,
     ) -> Prediction;
+
+    /// The charge of a job from its windows' tallies, eight a window.
+    pub fn cavzemil_charge_of(prices: Prices, tallies: *const u64, tallies_len: usize) -> Charge;
 }

@@ -1,4 +1,4 @@
-//! Refusals (rules 11.1 to 11.15).
+//! Refusals (rules 11.1 to 11.17).
 
 use crate::colour::Colorant;
 use std::error::Error;
@@ -32,7 +32,8 @@ pub enum Refusal {
     Offset,
     /// 5: a window, a lone place or a plate reaches beyond the sheet's 65,536 columns or rows.
     OffSheet,
-    /// 6: the run that is read hasn't the length that the columns and rows give.
+    /// 6: the run that is read hasn't the length that the columns and rows give or, of tallies, one that is
+    /// a multiple of 8.
     InputLength,
     /// 7: the run that is written hasn't the length that the columns and rows give.
     OutputLength,
@@ -42,6 +43,11 @@ pub enum Refusal {
     Plates,
     /// 11: a primary's value isn't 0 to 200; this is the first such colorant.
     Primary(Colorant),
+    /// 12: a price is above 1,000,000 cents for a million cells.
+    Price,
+    /// 13: the job has no window or more than 1,000, or one whose tallies add up to more than the sheet's
+    /// 4,294,967,296 cells.
+    Job,
 }
 
 impl Refusal {
@@ -58,6 +64,8 @@ impl Refusal {
             Refusal::Brick => 8,
             Refusal::Plates => 9,
             Refusal::Primary(_) => 11,
+            Refusal::Price => 12,
+            Refusal::Job => 13,
         }
     }
 
@@ -79,6 +87,8 @@ impl Refusal {
             8 => Refusal::Brick,
             9 => Refusal::Plates,
             11 => Refusal::Primary(Colorant::from_answer(colorant)),
+            12 => Refusal::Price,
+            13 => Refusal::Job,
             _ => panic!("the library answered {number}, which is no refusal of this call"),
         })
     }
@@ -93,13 +103,17 @@ impl fmt::Display for Refusal {
             Refusal::Subscreens => "the number of subscreens K must be 1 to 16 and not above N",
             Refusal::Offset => "the offset g must be below N",
             Refusal::OffSheet => "columns or rows beyond the sheet's 65,536 were asked for",
-            Refusal::InputLength => "the input's length does not fit the columns and rows",
+            Refusal::InputLength => {
+                "the input's length does not fit the columns and rows or, of tallies, is no multiple of 8"
+            }
             Refusal::OutputLength => "the output's length does not fit the columns and rows",
             Refusal::Brick => "the brick buffer is below N places or holds a wrong phase",
             Refusal::Plates => "a cell is above 7, a pixel is in no plane or in several, or padding is set",
             Refusal::Primary(colorant) => {
                 return write!(formatter, "a value of the {colorant} primary is not 0 to 200 (refusal 11)");
             }
+            Refusal::Price => "a price is above 1,000,000 cents for a million cells",
+            Refusal::Job => "a job needs 1 to 1,000 windows, each of at most 4,294,967,296 cells",
         };
         write!(formatter, "{wrong} (refusal {})", self.number())
     }

@@ -1,6 +1,6 @@
 //! The safe interface: every refusal arrives as its own case, and every call hands on what it is given.
 
-use cavzemil::{pack, unpack, Brick, Colorant, Inks, Refusal, Screen, Separation, Window, Xyz};
+use cavzemil::{charge, pack, unpack, Brick, Colorant, Inks, Refusal, Screen, Separation, Window, Xyz};
 use cavzemil_plain as plain;
 
 /// A screen that is admitted.
@@ -22,7 +22,7 @@ fn check<T>(answer: Result<T, Refusal>, expected: Refusal, number: u32) {
     assert!(found.to_string().ends_with(&format!("(refusal {number})")), "{found}");
 }
 
-/// Rules 11.5 to 11.13 and rule 11.15.
+/// Rules 11.5 to 11.13 and rules 11.15 to 11.17.
 #[test]
 fn every_refusal_has_its_number() {
     check(Screen { a: 7, ..SCREEN }.phase_at(0, 0), Refusal::Slope, 1);
@@ -40,6 +40,9 @@ fn every_refusal_has_its_number() {
     primaries[6].z = f64::NAN;
     let bad = SCREEN.predict(Separation::Kueppers, INKS, &primaries);
     check(bad, Refusal::Primary(Colorant::Black), 11);
+    check(charge([0; 8], &[0; 7]), Refusal::InputLength, 6);
+    check(charge([0, 0, 0, 0, 0, 0, 0, 1_000_001], &[0; 8]), Refusal::Price, 12);
+    check(charge([0; 8], &[]), Refusal::Job, 13);
 }
 
 /// Rule 4.2.
@@ -84,4 +87,13 @@ fn predictions_are_handed_on() {
     let values: Vec<f64> = primaries.iter().flat_map(|xyz| [xyz.x, xyz.y, xyz.z]).collect();
     let [x, y, z] = plain::predict(PLAIN, 1, [INKS.c, INKS.m, INKS.y], &values).xyz;
     assert_eq!(SCREEN.predict(Separation::Kueppers, INKS, &primaries), Ok(Xyz { x, y, z }));
+}
+
+#[test]
+fn charges_are_handed_on() {
+    let prices = [1, 20, 300, 4_000, 50_000, 600_000, 1_000_000, 7];
+    let tallies: Vec<u64> = (1..=24).map(|place| place * 1_234_567).collect();
+    let expected = plain::charge_of(prices, &tallies);
+    assert_eq!(expected.refusal, 0);
+    assert_eq!(charge(prices, &tallies), Ok(expected.cents));
 }

@@ -6,7 +6,7 @@
 import struct
 
 from rules import COLORANTS, COLOURS, RULES_IN_FORCE, SEPARATIONS
-from rules import brick, brick_phases, colorants, counts, numbers, phase
+from rules import brick, brick_phases, charge, colorants, counts, numbers, phase
 from rules import refusal as screen_refusal
 
 SCREEN = 4, 7, 30, 3, 5
@@ -26,6 +26,11 @@ CELLS = [0, 1, 2, 3, 4, 5, 6, 7, 7, 0, 5, 2, 7, 4, 1, 6, 3, 0, 6, 1, 3, 5]
 PRIMARIES = [
     22.1, 28.3, 90.7, 38.0, 20.2, 17.6, 76.9, 82.4, 10.3, 8.8, 6.1, 30.0,
     9.5, 17.7, 8.2, 32.9, 18.4, 4.6, 2.0, 2.5, 2.7, 88.0, 92.3, 98.1,
+]
+PRICES = [1000000, 250000, 31, 4000, 750001, 90210, 5, 123456]
+JOB = [
+    4000000000, 200000000, 90000000, 4000000, 900000, 60000, 7000, 296,
+    600000000, 3000000, 50000000, 700000000, 1100, 220000000, 13, 1700000,
 ]
 
 
@@ -57,8 +62,12 @@ def rendered(s, sep, w):
     return [colorants(s, sep, INPUT[3 * i : 3 * i + 3])[phase(s, *place)] for i, place in enumerate(places)]
 
 
+def tallied(cells):
+    return [cells.count(j) for j in range(8)]
+
+
 def tallies(cells):
-    return f", tallies {numbers(cells.count(j) for j in range(8))}"
+    return f", tallies {numbers(tallied(cells))}"
 
 
 def show_place(call, s, x=8, y=13):
@@ -143,6 +152,11 @@ def show_unpacking(call, planes, taken=32, places=22):
     show("unpack", call, r, lent("cells", [] if r else cells, 24) + lent("planes", planes, 32))
 
 
+def show_charge(call, run, prices=PRICES):
+    r, cents = charge(prices, run)
+    show("charge_of", call, r, f", cents {cents}")
+
+
 def show_screen(call, s):
     show_place(call, s)
     show_brick(call, s)
@@ -193,6 +207,19 @@ show_unpacking("served", planes)
 show_unpacking("planes too short", planes, taken=31)
 show_unpacking("cells too long", planes, places=23)
 show_unpacking("padding set", [planes[0], planes[1] | 1] + planes[2:])
+
+show_charge("two windows", JOB)
+show_charge("first window", JOB[:8])
+show_charge("second window", JOB[8:])
+show_charge("rendered", tallied(rendered(SCREEN, "kueppers", WINDOW)))
+show_charge("1000 windows", [536870912] * 8000)
+show_charge("1001 windows", [536870912] * 8008)
+show_charge("tallies too short", JOB[:15])
+show_charge("white too dear", JOB, PRICES[:7] + [1000001])
+show_charge("a cell too many", JOB[:4] + [900001] + JOB[5:])
+show_charge("every bit set", [2**64 - 1] * 16)
+
 show("render", "nothing lent", window_refusal(SCREEN, "kueppers", (8, 13, 0, 3), 0, 0), tallies([]))
 show("pack", "nothing lent", 0)
 show("unpack", "nothing lent", 0)
+show_charge("nothing lent", [])

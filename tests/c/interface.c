@@ -11,6 +11,7 @@
 
 enum { N = 30, PLACES = N + 2, X = 8, Y = 13, WIDE = 5, HIGH = 3, CELLS = WIDE * HIGH };
 enum { PLATE_WIDE = 11, PLATE_HIGH = 2, PLATE_CELLS = PLATE_WIDE * PLATE_HIGH, PLANES = 8 * PLATE_HIGH * 2 };
+enum { TALLIES = 16, MOST_TALLIES = 8000, MOST_PRICE = 1000000 };
 enum { VALUES = 24, SHEET = 65536, GUARDS = 2, UNWRITTEN = 170 };
 
 static const cavzemil_screen screen = {.a = 4, .b = 7, .n = N, .k = 3, .g = 5};
@@ -31,6 +32,11 @@ static const uint8_t cells[] = {0, 1, 2, 3, 4, 5, 6, 7, 7, 0, 5, 2, 7, 4, 1, 6, 
 static const double primaries[VALUES] = {
     22.1, 28.3, 90.7, 38,   20.2, 17.6, 76.9, 82.4, 10.3, 8.8, 6.1,  30,
     9.5,  17.7, 8.2,  32.9, 18.4, 4.6,  2,    2.5,  2.7,  88,  92.3, 98.1,
+};
+static const cavzemil_prices prices = {.of = {MOST_PRICE, 250000, 31, 4000, 750001, 90210, 5, 123456}};
+static const uint64_t job[TALLIES] = {
+    4000000000, 200000000, 90000000, 4000000,   900000, 60000,     7000, 296,
+    600000000,  3000000,   50000000, 700000000, 1100,   220000000, 13,   1700000,
 };
 
 /* Prints the function, what is particular in this call, and the refusal. */
@@ -165,6 +171,13 @@ static void show_unpacking(const char *call, const uint8_t *planes, size_t plane
     printf("\n");
 }
 
+/* Prints the charge of a job. */
+static void show_charge(const char *call, cavzemil_prices p, const uint64_t *tallies, size_t length) {
+    cavzemil_charge charge = cavzemil_charge_of(p, tallies, length);
+    print_call("charge_of", call, charge.refusal);
+    printf(", cents %" PRIu64 "\n", charge.cents);
+}
+
 /* Prints a colorant's constant, and the colorant of a place that has its inks in full. */
 static void show_full_tone(const char *name, uint32_t colorant, uint8_t c, uint8_t m, uint8_t y) {
     cavzemil_cell cell = cavzemil_cell_at(screen, CAVZEMIL_DEMICHEL, X, Y, c, m, y);
@@ -235,7 +248,38 @@ static void show_plates(void) {
     show_unpacking("padding set", planes, PLANES, PLATE_CELLS);
 }
 
-/* Prints what a window and plates without cells answer, every pointer null. */
+/* Prints the charge of a job, of each of its windows, and of the window as its rendering was answered. */
+static void show_charges(void) {
+    uint8_t out[CELLS];
+    cavzemil_rendering rendering =
+        cavzemil_render(screen, CAVZEMIL_KUEPPERS, window, input, sizeof input, out, CELLS);
+    show_charge("two windows", prices, job, TALLIES);
+    show_charge("first window", prices, job, 8);
+    show_charge("second window", prices, job + 8, 8);
+    show_charge("rendered", prices, rendering.tallies, 8);
+}
+
+/* Prints the charge of the largest job, and what refuses others; the job's first window has as many cells as it
+   may have. */
+static void show_charge_limits(void) {
+    uint64_t most[MOST_TALLIES + 8], tallies[TALLIES];
+    cavzemil_prices dear = prices;
+    for (int place = 0; place < MOST_TALLIES + 8; place++) {
+        most[place] = 536870912;
+    }
+    show_charge("1000 windows", prices, most, MOST_TALLIES);
+    show_charge("1001 windows", prices, most, MOST_TALLIES + 8);
+    show_charge("tallies too short", prices, job, TALLIES - 1);
+    dear.of[CAVZEMIL_WHITE] = MOST_PRICE + 1;
+    show_charge("white too dear", dear, job, TALLIES);
+    memcpy(tallies, job, sizeof tallies);
+    tallies[CAVZEMIL_GREEN]++;
+    show_charge("a cell too many", prices, tallies, TALLIES);
+    memset(tallies, 255, sizeof tallies);
+    show_charge("every bit set", prices, tallies, TALLIES);
+}
+
+/* Prints what a window, plates and a job without cells answer, every pointer null. */
 static void show_nothing_lent(void) {
     const cavzemil_window empty = {.x = X, .y = Y, .columns = 0, .rows = HIGH};
     print_rendering("render", "nothing lent", cavzemil_render(screen, CAVZEMIL_KUEPPERS, empty, NULL, 0, NULL, 0));
@@ -244,6 +288,7 @@ static void show_nothing_lent(void) {
     printf("\n");
     print_call("unpack", "nothing lent", cavzemil_unpack(WIDE, 0, NULL, 0, NULL, 0));
     printf("\n");
+    show_charge("nothing lent", prices, NULL, 0);
 }
 
 /* Prints the number of the rules, the constants, and what each screen and the rest of the calls answer. */
@@ -260,6 +305,8 @@ int main(void) {
     }
     show_limits();
     show_plates();
+    show_charges();
+    show_charge_limits();
     show_nothing_lent();
     return 0;
 }

@@ -1,10 +1,10 @@
--- Division rounded down and up: of a sum, of a larger number, of multiples, and Hermite's law that the k divisions of m, m + 1, .., m + k - 1 by k add up to m.
+-- Division rounded down and up: of a sum, of a larger number, of multiples, of many numbers together and apart, and Hermite's law that the k divisions of m, m + 1, .., m + k - 1 by k add up to m.
 -- That law goes from m to m + 1 by a shift of one place, which loses m / k and gains (m + k) / k, one more.
 -- Assumes nothing.
 use Prim.Native.Nat.{ℕ, zero, suc, _+_, _-_, _*_, _/_, _≤_, _<_}
 use mathlib.Core.Path.{_≡_, ap, _∙_}
 use mathlib.Core.Logic.{_⊎_, inl, inr}
-use native.Mathlib.Nat.{le-of-suc-le-suc, eq-zero-or-pos, le-div-iff-mul-le, div-lt-iff-lt-mul, div-mul-le-self, lt-div-mul-add, div-zero, div-eq-of-lt, div-eq-of-lt-le, add-div-right, add-zero, zero-add, add-suc, suc-add, mul-le-mul-left, mul-pos}
+use native.Mathlib.Nat.{le-of-suc-le-suc, eq-zero-or-pos, le-div-iff-mul-le, div-lt-iff-lt-mul, div-mul-le-self, lt-div-mul-add, div-zero, div-eq-of-lt, div-eq-of-lt-le, add-div-right, add-zero, zero-add, add-suc, suc-add, mul-le-mul-left, lt-of-mul-lt-mul-right, mul-pos, le-of-eq}
 use native.Mathlib.Omega.{arith}
 use Rattle.arith.specs.Rounding.{roundedUp}
 use Rattle.arith.specs.Sum.{sumBelow}
@@ -32,12 +32,43 @@ floor-mono e m d h = go (eq-zero-or-pos d)
     go (inl q) = rw (q, div-zero e, div-zero m) (omega arith)
     go (inr pos) = le-div-iff-mul-le pos .1 (omega (arith, div-mul-le-self e d))
 
+-- rounded up, a number's multiple of d is the first that reaches it
+up-least : (m d : ℕ) → 0 < d → m ≤ roundedUp m d * d
+up-least m d pos = omega (arith, lt-div-mul-add {a = m + d - 1} pos)
+
+up-most : (m d : ℕ) → 0 < d → roundedUp m d * d + 1 ≤ m + d
+up-most m d pos = omega (arith, div-mul-le-self (m + d - 1) d)
+
 -- rounding up is unchanged where both numbers are multiplied by c
 pub rounded-scaled : (c m d : ℕ) → 0 < c → 0 < d → roundedUp (c * m) (c * d) ≡ roundedUp m d
 rounded-scaled c m d some pos =
-    let low : roundedUp m d * d + 1 ≤ m + d = omega (arith, div-mul-le-self (m + d - 1) d) in
-    let high : m + d ≤ (roundedUp m d + 1) * d = omega (arith, lt-div-mul-add {a = m + d - 1} pos) in
-    div-eq-of-lt-le (c * d) (omega (arith, mul-le-mul-left c low)) (omega (arith, mul-le-mul-left c high, mul-pos some pos))
+    div-eq-of-lt-le (c * d) (omega (arith, mul-le-mul-left c (up-most m d pos))) (omega (arith, mul-le-mul-left c (up-least m d pos), mul-pos some pos))
+
+-- ---- of many numbers, rounded up
+
+-- apart they come to no less than together,
+up-together : (m n d : ℕ) → 0 < d → roundedUp (m + n) d ≤ roundedUp m d + roundedUp n d
+up-together m n d pos =
+    le-of-suc-le-suc (div-lt-iff-lt-mul pos .1 (omega (arith, up-least m d pos, up-least n d pos)))
+
+-- and to at most 1 more
+up-apart : (m n d : ℕ) → 0 < d → roundedUp m d + roundedUp n d ≤ roundedUp (m + n) d + 1
+up-apart m n d pos =
+    let below : (roundedUp m d + roundedUp n d) * d < (roundedUp (m + n) d + 2) * d = omega (arith, up-most m d pos, up-most n d pos, up-least (m + n) d pos) in
+    omega (arith, lt-of-mul-lt-mul-right d below)
+
+module _ (d : ℕ) (pos : 0 < d) (m : ℕ → ℕ) where
+  -- so do many,
+  pub ups-together : (n : ℕ) → roundedUp (sumBelow n m) d ≤ sumBelow n (λ i. roundedUp (m i) d)
+  unfolding sumBelow
+  ups-together zero = le-of-eq (div-eq-of-lt (omega arith))
+  ups-together (suc n) = omega (arith, up-together (sumBelow n m) (m n) d pos, ups-together n)
+
+  -- which come to at most 1 more with each number after the first
+  pub ups-apart : (n : ℕ) → sumBelow (suc n) (λ i. roundedUp (m i) d) ≤ roundedUp (sumBelow (suc n) m) d + n
+  unfolding sumBelow
+  ups-apart zero = omega (arith, ap (λ (v : ℕ). roundedUp v d) (zero-add (m 0)))
+  ups-apart (suc n) = omega (arith, up-apart (sumBelow (suc n) m) (m (suc n)) d pos, ups-apart n)
 
 -- ---- Hermite's law
 

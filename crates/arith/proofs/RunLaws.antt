@@ -91,6 +91,10 @@ module _ {f : ℕ → ℕ} {l₀ l : List ℕ} {i : ℕ} (r : Filling f l₀ l i
   pub filling-length : length l ≡ length l₀
   filling-length = rw (r .cells) (upto-over f l₀ i (r .within))
 
+  -- the next place is as it was
+  pub filling-ahead : i < length l₀ → getD l i 0 ≡ getD l₀ i 0
+  filling-ahead h = rw (r .cells, drop-cons l₀ i 0 h) (getD-at (upto f i) (getD l₀ i 0) (drop (suc i) l₀) 0 i (upto-length f i))
+
   pub filling-store : (v : ℕ) → i < length l₀ → v ≡ f i → Filling f l₀ (set l i v) (i + 1)
   filling-store v h e = record { within = omega arith; cells = rw (r .cells, e) (upto-store f l₀ i h) }
 

@@ -4,6 +4,7 @@ use Prim.Native.Nat.{ℕ, zero, suc, _+_, _-_, _*_, _/_, _%_, _≤_, _<_}
 use mathlib.Core.Path.{_≡_, refl, sym, ap, ap₂, _∙_}
 use mathlib.Core.Logic.{_⊎_, inl, inr, _≢_}
 use native.Mathlib.Nat.{le-refl, le-step, le-of-suc-le-suc, not-suc-le-zero, eq-or-lt-of-le, ne-of-lt, add-zero, add-suc, sub-add-cancel, add-sub-of-le, zero-mul, mul-zero, mul-one, suc-mul}
+use native.Mathlib.Numerals.{add-one}
 use native.Mathlib.Decide.{ℕ-discrete, decLt}
 use native.Mathlib.Omega.{arith}
 use lib.Dec.{eqb, ltb}
@@ -25,6 +26,17 @@ pub sum-same : (n : ℕ) (f g : ℕ → ℕ) → ((i : ℕ) → i < n → f i �
 unfolding sumBelow
 sum-same zero f g h = refl
 sum-same (suc n) f g h = ap₂ _+_ (sum-same n f g (λ i l. h i (le-step l))) (h n (le-refl (suc n)))
+
+-- a sum with one term more
+pub sum-next : (n : ℕ) (f : ℕ → ℕ) → sumBelow (n + 1) f ≡ sumBelow n f + f n
+unfolding sumBelow
+sum-next n f = ap (λ (k : ℕ). sumBelow k f) (add-one n)
+
+-- terms that are no larger add up to no more
+pub sum-le : (n : ℕ) (f g : ℕ → ℕ) → ((i : ℕ) → i < n → f i ≤ g i) → sumBelow n f ≤ sumBelow n g
+unfolding sumBelow
+sum-le zero f g h = le-refl 0
+sum-le (suc n) f g h = omega (arith, sum-le n f g (λ i l. h i (le-step l)), h n (le-refl (suc n)))
 
 -- A SUM OF A CONSTANT
 pub sum-constant : (n c : ℕ) (f : ℕ → ℕ) → ((i : ℕ) → i < n → f i ≡ c) → sumBelow n f ≡ n * c
@@ -62,6 +74,10 @@ sum-shift (suc n) f = omega (arith, sum-shift n f)
 -- fewer terms add up to no more
 pub sum-fewer : (m n : ℕ) (f : ℕ → ℕ) → m ≤ n → sumBelow m f ≤ sumBelow n f
 sum-fewer m n f h = omega (arith, sum-split m (n - m) f, ap (λ (k : ℕ). sumBelow k f) (add-sub-of-le h))
+
+-- one term is no more than all
+pub sum-term : (n : ℕ) (f : ℕ → ℕ) (k : ℕ) → k < n → f k ≤ sumBelow n f
+sum-term n f k h = omega (arith, sum-next k f, sum-fewer (k + 1) n f (omega arith))
 
 -- A SUM WITH ONE TERM that may be above 0
 pub sum-single : (n k : ℕ) (f : ℕ → ℕ) → k < n → ((i : ℕ) → i < n → i ≢ k → f i ≡ 0) → sumBelow n f ≡ f k
@@ -199,17 +215,13 @@ sum-along n k h g low once =
         ∙ ap (λ (c : ℕ). g (h i) * c) (indicator-one {a = h i} refl)
         ∙ mul-one (g (h i))
 
-sum-last : (i : ℕ) (f : ℕ → ℕ) → sumBelow (suc i) f ≡ sumBelow i f + f i
-unfolding sumBelow
-sum-last i f = refl
-
 -- OF NUMBERS THAT ADD UP TO ONE OF THEM the others are 0
 pub sum-alone : (n : ℕ) (f : ℕ → ℕ) (h : ℕ) → h < n → sumBelow n f ≡ f h → (k : ℕ) → k < n → (k ≡ h → ⊥) → f k ≡ 0
 sum-alone n f h l e k m apart = go (decLt k h)
   where
     -- two of them are no more than all
     two : (i j : ℕ) → i < n → j < i → f i + f j ≤ sumBelow n f
-    two i j a b = omega (arith, sum-last j f, sum-last i f, sum-fewer (suc j) i f b, sum-fewer (suc i) n f a)
+    two i j a b = omega (arith, sum-next j f, sum-next i f, sum-fewer (j + 1) i f (omega arith), sum-fewer (i + 1) n f (omega arith))
 
     go : Dec (k < h) → f k ≡ 0
     go (yes below) = omega (arith, two h k l below)

@@ -4,7 +4,8 @@ use Prim.Native.Nat.{ℕ, zero, suc, _+_, _≤_, _<_}
 use mathlib.Core.Path.{_≡_, refl, sym, ap, _∙_}
 use mathlib.Core.Bool.{Bool, true, false}
 use mathlib.Core.List.{List, [], _∷_, _++_}
-use native.Mathlib.Decide.{ℕ-discrete}
+use native.Mathlib.Nat.{le-of-eq, mul-zero}
+use native.Mathlib.Decide.{ℕ-discrete, decLt}
 use native.Mathlib.Omega.{arith}
 use lib.ListN.{length, getD, set, length-set}
 use lib.Seq.{getD-set-same, getD-set-other, ext-getD}
@@ -14,6 +15,7 @@ use Rattle.arith.specs.Sum.{sumBelow, indicator}
 use Rattle.arith.specs.Run.{upto}
 use Rattle.arith.specs.Tally.{tally}
 use Rattle.arith.proofs.RunLaws.{upto-length, upto-at, upto-same}
+use Rattle.arith.proofs.SumLaws.{indicator-none, sum-constant, sum-met, sum-plus}
 
 pub indicator-le : (t : Bool) → indicator t ≤ 1
 indicator-le true = omega arith
@@ -32,6 +34,16 @@ pub tally-most : (v : ℕ) (l : List ℕ) → tally v l ≤ length l
 unfolding tally
 tally-most v [] = omega arith
 tally-most v (x ∷ l) = omega (arith, tally-most v l, indicator-le (eqb x v))
+
+-- the tallies of n numbers count no element twice
+pub tallies-most : (n : ℕ) (l : List ℕ) → sumBelow n (λ v. tally v l) ≤ length l
+unfolding tally
+tallies-most n [] = le-of-eq (sum-constant n 0 _ (λ v h. refl) ∙ mul-zero n)
+tallies-most n (x ∷ l) = omega (arith, sum-plus n (λ v. indicator (eqb x v)) (λ v. tally v l), tallies-most n l, once (decLt x n))
+  where
+    once : Dec (x < n) → sumBelow n (λ v. indicator (eqb x v)) ≤ 1
+    once (yes h) = le-of-eq (sum-met n x h)
+    once (no h) = omega (arith, sum-constant n 0 (λ v. indicator (eqb x v)) (λ v k. indicator-none {a = x} {b = v} (λ e. omega arith)))
 
 -- a tally of a list given by its places is a sum of tests
 pub tally-upto : (v : ℕ) (f : ℕ → ℕ) (n : ℕ) → tally v (upto f n) ≡ sumBelow n (λ i. indicator (eqb (f i) v))

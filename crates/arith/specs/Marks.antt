@@ -13,5 +13,5 @@ pub record Marks : Type 0 where
   -- 0 − 7 by 105
   pub remainder-98 : remainderOf 0 7 105 ≡ 98
   pub words : RemainderWords → (98 < 105) × ((98 + 7) % 105 ≡ 0)
-  -- rule 14.1: no change request yet
-  pub in-force : rulesInForce ≡ 0
+  -- rule 14.1: the ink bill
+  pub in-force : rulesInForce ≡ 1

@@ -20,13 +20,14 @@ use Rattle.render.specs.Windows.{cellOf, windowCell, windowCells, talliesOf}
 use Rattle.render.specs.Answers.{windowRefusal, dueIn, brickRefusal, answerOf}
 use Rattle.predict.specs.Predicted.{firstBad}
 use Rattle.predict.specs.Numbered.{predictRefusal, ruled}
+use Rattle.bill.specs.Charges.{added, pricesAdmitted, cellsIn, windowsAdmitted, chargeRefusal, costOf, charged}
 use Rattle.cavzemil.specs.Separations.{known, separationOf}
 use Rattle.cavzemil.specs.Windows.{cellGiven, renderingGiven, outputGiven}
 use Rattle.cavzemil.specs.Colours.{countsGiven, primariesIn, valuesRefusal, predictionGiven}
 use Rattle.cavzemil.specs.Marks.{Marks}
 
 pub marks : Marks
-unfolding le every firstBelow gcdOf remainderOf upto zeros sumBelow tally slopeAdmitted cellsAdmitted subscreensAdmitted offsetAdmitted refusalOf onSheet phaseOf placeRefusal placeOf shiftOf brickOf weight scaleOf weightUpTo level running count subscreenSize subscreenStart subscreenOf distanceOf fillUpTo colorantAt colorantOf cellOf windowCell windowCells talliesOf windowRefusal dueIn brickRefusal answerOf firstBad predictRefusal ruled known separationOf cellGiven renderingGiven outputGiven countsGiven primariesIn valuesRefusal predictionGiven
+unfolding le every firstBelow gcdOf remainderOf upto zeros sumBelow tally slopeAdmitted cellsAdmitted subscreensAdmitted offsetAdmitted refusalOf onSheet phaseOf placeRefusal placeOf shiftOf brickOf weight scaleOf weightUpTo level running count subscreenSize subscreenStart subscreenOf distanceOf fillUpTo colorantAt colorantOf cellOf windowCell windowCells talliesOf windowRefusal dueIn brickRefusal answerOf firstBad predictRefusal ruled added pricesAdmitted cellsIn windowsAdmitted chargeRefusal costOf charged known separationOf cellGiven renderingGiven outputGiven countsGiven primariesIn valuesRefusal predictionGiven
 marks =
     record {
       placed = refl;
@@ -50,4 +51,6 @@ marks =
       short-colour = refl;
       sloped-colour = refl;
       bad-colour = refl;
+      billed = refl;
+      unbilled = refl;
     }

@@ -2,4 +2,5 @@ pub mod Separations
 pub mod Screens
 pub mod Windows
 pub mod Colours
+pub mod Bills
 pub mod Marks

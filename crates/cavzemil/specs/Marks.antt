@@ -10,12 +10,15 @@ use Rattle.screen.specs.Brick.{brickOf}
 use Rattle.separation.specs.declared.Separation.the-variants.{Demichel, Kueppers}
 use Rattle.separation.specs.Marks.{half}
 use Rattle.predict.specs.Predicted.{plusZero}
+use Rattle.bill.specs.Charges.{charged}
+use Rattle.bill.specs.Marks.{flat, tint}
 use Rattle.cavzemil.specs.declared.screens.Screen.{Screen}
 use Rattle.cavzemil.specs.declared.windows.Window.{Window}
 use Rattle.cavzemil.specs.Separations.{separationOf}
 use Rattle.cavzemil.specs.Screens.{screenOf, screenLaid, placeLaid, brickLaid}
 use Rattle.cavzemil.specs.Windows.{cellAnswer, renderAnswer, renderOutput, brickAnswer, brickOutput}
 use Rattle.cavzemil.specs.Colours.{countsAnswer, colourless, predictAnswer}
+use Rattle.cavzemil.specs.Bills.{chargeLaid}
 
 -- rule 12.8's screen, one whose slope is not in lowest terms, and one of a single cell, whose brick is the phase 0
 abbrev pub listed : Screen
@@ -63,3 +66,6 @@ pub record Marks : Type 0 where
   pub short-colour : predictAnswer listed 1 half [] ≡ colourless 6 0
   pub sloped-colour : predictAnswer sloped 1 half [] ≡ colourless 1 0
   pub bad-colour : predictAnswer listed 1 half magentaUnset ≡ colourless 11 1
+  -- rule 12.15's bill, and no window
+  pub billed : chargeLaid (charged (flat 1000000) tint) ≡ record { refusal = 0; cents = 105 }
+  pub unbilled : chargeLaid (charged (flat 1000000) []) ≡ record { refusal = 13; cents = 0 }

@@ -1,18 +1,22 @@
 -- What the renderers answer and leave in the output, refused, empty or rendered; and what the functions below them ask.
 -- Assumes nothing.
-use Prim.Native.Nat.{ℕ, _+_, _*_, _/_, _%_}
+use Prim.Native.Nat.{ℕ, _+_, _*_, _/_, _%_, _≤_}
 use mathlib.Core.Path.{_≡_, refl, sym, ap, ap₂, _∙_}
+use mathlib.Core.Logic.{_⊎_, inl, inr}
 use mathlib.Core.List.{List, [], _∷_}
 use native.Mathlib.Nat.{pos-of-ne-zero, add-zero, zero-mul}
 use native.Mathlib.Decide.{ℕ-discrete}
 use native.Mathlib.Omega.{arith}
 use lib.ListN.{length, getD}
-use borrow.Author.Tests.{ne-eqb}
+use borrow.Author.Tests.{eq-eqb, ne-eqb}
 use Rattle.arith.specs.Run.{upto, zeros}
+use Rattle.arith.specs.Sum.{sumBelow}
 use Rattle.arith.specs.Tally.{tally}
 use Rattle.arith.specs.Refusal.{answered, written}
-use Rattle.arith.proofs.RefusalLaws.{answered-none, answered-whole, written-none, written-all, written-refused}
-use Rattle.arith.proofs.RunLaws.{upto-length, upto-same}
+use Rattle.arith.proofs.SumLaws.{sum-same}
+use Rattle.arith.proofs.TallyLaws.{tallies-most}
+use Rattle.arith.proofs.RefusalLaws.{or-none, answered-none, answered-whole, written-none, written-all, written-refused}
+use Rattle.arith.proofs.RunLaws.{upto-length, upto-at, upto-same}
 use Rattle.screen.specs.declared.Screen.{Screen}
 use Rattle.screen.specs.Screens.{Admitted}
 use Rattle.screen.specs.Phase.{phase, placeRefusal}
@@ -25,9 +29,10 @@ use Rattle.render.specs.declared.Window.{Window}
 use Rattle.render.specs.declared.Rendering.{Rendering}
 use Rattle.render.specs.declared.Cell.{Cell}
 use Rattle.render.specs.Windows.{area, inksAt, cellOf, windowCell, windowCells, talliesOf}
-use Rattle.render.specs.Answers.{windowRefusal, answerOf, rendering, rendered, loneCell}
+use Rattle.render.specs.Answers.{windowRefusal, brickRefusal, answerOf, rendering, rendered, brickRendering, loneCell}
+use Rattle.render.specs.Laws.{TalliesOnSheet}
 use Rattle.render.specs.Rows.{TableOf, cellsBy, RowsLent}
-use Rattle.render.proofs.RefusalLaws.{window-kept, places-enough}
+use Rattle.render.proofs.RefusalLaws.{area-limit, window-kept, places-enough}
 
 -- ---- answers
 
@@ -62,6 +67,22 @@ module _ (r : ℕ) (cells out : List ℕ) where
       let whole = answer-whole {t = zeros 8} {out₁ = out} e (n ∙ sym m) (none ∙ sym (no-cells cells n)) (sym (ap talliesOf none)) in
       (q ∙ whole .0, whole .1)
 
+-- the tallies of an answer count each of its cells at most once
+abbrev Within : ℕ → List ℕ → Type 0
+Within most tallies = (length tallies ≡ 8) × (sumBelow 8 (λ j. getD tallies j 0) ≤ most)
+
+answer-within : (r : ℕ) (cells : List ℕ) (most : ℕ) → (r ≡ 0 → length cells ≤ most) → Within most (answerOf r cells .tallies)
+unfolding answerOf talliesOf zeros sumBelow
+answer-within r cells most fits = go (ℕ-discrete r 0)
+  where
+    go : Dec (r ≡ 0) → Within most (answerOf r cells .tallies)
+    go (yes z) =
+        rw (eq-eqb r 0 z) (
+          upto-length _ 8,
+          omega (arith, sum-same 8 _ _ (λ j l. upto-at (λ j. tally j cells) 8 j l), tallies-most 8 cells, fits z),
+        )
+    go (no h) = rw (ne-eqb r 0 h) (refl, omega arith)
+
 -- ---- cells
 
 module _ (s : Screen) (sep : Separation) (w : Window) (input : List ℕ) where
@@ -77,6 +98,21 @@ module _ (s : Screen) (sep : Separation) (w : Window) (input : List ℕ) where
       e
       ∙ ap (λ (k : ℕ). cellsBy s sep input f k) stated
       ∙ upto-same _ _ (area w) (λ i l. ap (colorantOf s sep (inksAt input i)) (reads i))
+
+-- a window that is not refused has no more cells than the sheet
+window-within : (s : Screen) (sep : Separation) (w : Window) (input : List ℕ) (inputs outputs : ℕ) → windowRefusal s w inputs outputs ≡ 0
+    → length (windowCells s sep w input) ≤ 65536 * 65536
+window-within s sep w input inputs outputs e =
+    let kept = window-kept s w inputs outputs e in
+    rw (cells-length s sep w input) (area-limit (w .x) (w .y) (w .columns) (w .rows) (kept .1) (kept .2))
+
+pub tallies-on-sheet : TalliesOnSheet
+unfolding rendering brickRendering brickRefusal
+tallies-on-sheet r (s, sep, w, input, brick, out, call) = go call
+  where
+    go : (r ≡ rendering s sep w input out) ⊎ (r ≡ brickRendering s sep w input brick out) → Within (65536 * 65536) (r .tallies)
+    go (inl e) = rw e (answer-within _ (windowCells s sep w input) (65536 * 65536) (λ z. window-within s sep w input _ _ z))
+    go (inr e) = rw e (answer-within _ (windowCells s sep w input) (65536 * 65536) (λ z. window-within s sep w input _ _ (or-none _ _ z .0)))
 
 -- ---- what the functions below ask
 

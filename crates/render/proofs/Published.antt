@@ -1,12 +1,15 @@
--- The law of specs/Laws.antt, and that of specs/Finished.antt which is about both renderers, proved.
+-- The laws of specs/Laws.antt, and that of specs/Finished.antt which is about both renderers, proved.
 -- Assumes nothing.
-use Rattle.render.specs.Laws.{AnswerRefused}
+use Rattle.render.specs.Laws.{AnswerRefused, TalliesOnSheet}
 use Rattle.render.specs.Finished.{Agreement}
 use Rattle.render.proofs.AnswerLaws as AnswerLaws
 use Rattle.render.proofs.FinishedLaws as FinishedLaws
 
 pub answer-refused : AnswerRefused
 answer-refused = AnswerLaws.answer-refused
+
+pub tallies-on-sheet : TalliesOnSheet
+tallies-on-sheet = AnswerLaws.tallies-on-sheet
 
 pub agreement : Agreement
 agreement = FinishedLaws.agreement

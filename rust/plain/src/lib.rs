@@ -7,6 +7,7 @@
 //! Every call of the C interface is here under its own name, in Rust's types but with the same numbers:
 //! an answer holds its refusal, 0 where there is none, and a separation is handed over as a number.
 
+mod bill;
 mod brick;
 mod counts_program;
 mod plates;
@@ -17,6 +18,7 @@ mod render;
 mod screen;
 mod separation;
 
+pub use bill::{charge_of, Charge};
 pub use brick::{brick_of, fill_brick, Brick};
 pub use counts_program::counts_program;
 pub use plates::{pack, unpack};
@@ -27,7 +29,7 @@ pub use screen::{phase, phase_at, screen_refusal, Place, Screen};
 pub use separation::{scale, weights, Inks, Separation};
 
 /// The number of the rules that this implementation is written from (rule 14.1).
-pub const RULES: u32 = 0;
+pub const RULES: u32 = 1;
 
 /// The refusal of a separation that is neither 0 (Demichel) nor 1 (Kueppers), tested before all else
 /// (rule 14.3).

@@ -1,11 +1,12 @@
-//! The plain implementation by itself: the worked examples, finished windows, and the counts program's texts.
+//! The plain implementation by itself: the worked examples, finished windows, jobs, and the counts program's
+//! texts.
 
 mod promises;
 mod texts;
 
 /// The implementation that the promises are put to.
 mod subject {
-    pub use cavzemil_plain::{brick_of, cell_at, counts_of, fill_brick, pack, phase_at, predict};
+    pub use cavzemil_plain::{brick_of, cell_at, charge_of, counts_of, fill_brick, pack, phase_at, predict};
     pub use cavzemil_plain::{render, render_brick, unpack};
 }
 

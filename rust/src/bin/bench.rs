@@ -1,8 +1,9 @@
 //! Cells a second of the compiled library: both renderers on flat, gradient and noisy images, packing and
 //! unpacking; beside each the plain second implementation and a copy of the same input bytes, measured in
-//! the same run. Run by `cargo run --release --features bench --bin bench`.
+//! the same run. Two lines follow with the time of a call: for a lone cell and for the charge of a job. Run by
+//! `cargo run --release --features bench --bin bench`.
 
-use cavzemil::{pack, unpack, Inks, Screen, Separation, Window};
+use cavzemil::{charge, pack, unpack, Inks, Screen, Separation, Window};
 use cavzemil_plain as plain;
 use cavzemil_plain::random::Random;
 use std::hint::black_box;
@@ -21,6 +22,10 @@ const COPY_REPEATS: u32 = 10;
 
 /// How many lone cells are asked for.
 const LONE_CELLS: u32 = 100_000;
+
+/// How many charges are asked for, and the windows of their job.
+const CHARGES: u32 = 10_000;
+const JOB_WINDOWS: u32 = 1_000;
 
 /// The screen, as both implementations take it.
 const SCREEN: Screen = Screen { a: 4, b: 7, n: 105, k: 2, g: 0 };
@@ -154,6 +159,30 @@ fn measure_lone_cells() {
     println!("cell_at, n = 4096: {:.0} ns a call; plain {:.0} ns", nanoseconds(library), nanoseconds(plain));
 }
 
+/// Measures the charge of the longest job, in nanoseconds a call.
+fn measure_charge() {
+    let mut random = Random::new(8);
+    let prices = [0; 8].map(|_: u32| random.between(0, 1_000_000));
+    let tallies: Vec<u64> = (0..8 * JOB_WINDOWS).map(|_| u64::from(random.between(0, SIDE * SIDE))).collect();
+    let library = seconds(REPEATS, || {
+        (0..CHARGES).for_each(|_| {
+            black_box(screened(charge(prices, black_box(&tallies))));
+        });
+    });
+    let plain = seconds(PLAIN_REPEATS, || {
+        (0..CHARGES).for_each(|_| {
+            black_box(plain::charge_of(prices, black_box(&tallies)));
+        });
+    });
+    assert_eq!(screened(charge(prices, &tallies)), plain::charge_of(prices, &tallies).cents);
+    let nanoseconds = |seconds: f64| seconds * 1e9 / f64::from(CHARGES);
+    println!(
+        "charge, {JOB_WINDOWS} windows: {:.0} ns a call; plain {:.0} ns",
+        nanoseconds(library),
+        nanoseconds(plain)
+    );
+}
+
 /// The answer of a call that is not refused.
 fn screened<T>(answer: Result<T, cavzemil::Refusal>) -> T {
     answer.expect("the benchmark's calls are not refused")
@@ -174,4 +203,5 @@ fn main() {
     }
     images.iter().for_each(measure_plates);
     measure_lone_cells();
+    measure_charge();
 }

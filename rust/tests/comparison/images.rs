@@ -7,7 +7,7 @@ use crate::choose::{self, Length};
 use crate::guarded::{blank, Guarded};
 use crate::{promises::draw, subject};
 use cavzemil_plain::random::Random;
-use cavzemil_plain::{screen_refusal, Inks, Screen, Window};
+use cavzemil_plain::{screen_refusal, Inks, Rendering, Screen, Window};
 
 /// An image by its pixels' places, so that a smaller window keeps what is left of it.
 #[derive(Clone, Copy, Debug)]
@@ -238,6 +238,19 @@ fn draw_case(random: &mut Random, columns: u32, rows: u32) -> ImageCase {
         input: Length::draw(random),
         output: Length::draw(random),
     }
+}
+
+/// What both renderers of the compiled library answer for a call of any sort, which may be refused.
+pub fn draw_answers(random: &mut Random) -> [Rendering; 2] {
+    let case = draw_case(random, 30, 20);
+    let ImageCase { screen, separation, window, .. } = case;
+    let input = case.image.input(window, case.input_places());
+    let brick = Phases::draw(random, screen).brick(screen);
+    let mut out = vec![0; case.output_places()];
+    [
+        subject::render(screen, separation, window, &input, &mut out),
+        subject::render_brick(screen, separation, window, &input, &brick, &mut out),
+    ]
 }
 
 /// Windows at each limit of the sheet and beyond it, some of them empty.

@@ -42,6 +42,13 @@ fn empty_windows_take_a_true_brick() {
 }
 
 #[test]
+fn jobs_may_be_null() {
+    let charge = |price| unsafe { ffi::cavzemil_charge_of(ffi::Prices { of: [price; 8] }, null(), 0) };
+    assert_eq!(charge(1_000_000), ffi::Charge { refusal: 13, cents: 0 });
+    assert_eq!(charge(1_000_001), ffi::Charge { refusal: 12, cents: 0 });
+}
+
+#[test]
 fn bricks_plates_and_primaries_may_be_null() {
     let s = c_screen(SCREEN);
     assert_eq!(unsafe { ffi::cavzemil_fill_brick(s, null_mut(), 0) }, 8);

@@ -1,7 +1,7 @@
 //! The compiled library's calls, in the plain implementation's types.
 
 use cavzemil::{calls, ffi};
-use cavzemil_plain::{Brick, Cell, Counts, Inks, Place, Prediction, Rendering, Screen, Window};
+use cavzemil_plain::{Brick, Cell, Charge, Counts, Inks, Place, Prediction, Rendering, Screen, Window};
 
 /// Plates are bytes on both sides, so these two calls need no translation.
 pub use cavzemil::calls::{pack, unpack};
@@ -71,4 +71,10 @@ pub fn render_brick(
 pub fn predict(s: Screen, separation: u32, inks: Inks, primaries: &[f64]) -> Prediction {
     let answer = calls::predict(c_screen(s), separation, inks, primaries);
     Prediction { refusal: answer.refusal, colorant: answer.colorant, xyz: [answer.x, answer.y, answer.z] }
+}
+
+/// The charge of a job.
+pub fn charge_of(prices: [u32; 8], tallies: &[u64]) -> Charge {
+    let answer = calls::charge_of(prices, tallies);
+    Charge { refusal: answer.refusal, cents: answer.cents }
 }

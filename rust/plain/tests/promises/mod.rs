@@ -1,6 +1,7 @@
 //! What the rules promise of any implementation. The calls are those of the module `subject` of the test
 //! that includes this one, so that the plain and the compiled library stand the same test.
 
+pub mod bills;
 pub mod draw;
 mod finished_windows;
 mod marks;

@@ -1,0 +1,3 @@
+pub mod Charges
+pub mod Laws
+pub mod Marks

@@ -1,0 +1,144 @@
+//! What charge_of leaves unread: all of a run that is refused by its length, by a price or by its number of
+//! windows (rules 15.1 to 15.3), and what stands before and after a run that is charged.
+//!
+//! Such memory may not be read here: whoever does is stopped by the system with signal 11, and this test
+//! program with it. So it is a program of its own.
+
+use cavzemil::charge;
+use cavzemil::ffi::{cavzemil_charge_of, Charge, Prices};
+use cavzemil_plain::{charge_of, random::Random};
+use std::ffi::{c_int, c_long, c_void};
+use std::ptr::null_mut;
+use std::slice;
+
+extern "C" {
+    /// Asks the system for memory.
+    fn mmap(
+        at: *mut c_void,
+        bytes: usize,
+        access: c_int,
+        sort: c_int,
+        file: c_int,
+        from: c_long,
+    ) -> *mut c_void;
+
+    /// Changes who may read and write memory.
+    fn mprotect(at: *mut c_void, bytes: usize, access: c_int) -> c_int;
+
+    /// Gives memory back.
+    fn munmap(at: *mut c_void, bytes: usize) -> c_int;
+}
+
+/// Neither to be read nor written, and both; Linux's numbers on x86-64.
+const NO_ACCESS: c_int = 0;
+const READ_AND_WRITE: c_int = 3;
+
+/// Memory that is private, in no file and not kept ready.
+const PRIVATE_MEMORY: c_int = 0x02 + 0x20 + 0x4000;
+
+/// The tallies of a page of memory.
+const PAGE: usize = 4096 / 8;
+
+/// Memory for so many tallies, none of which may be read.
+struct Closed {
+    start: *mut u64,
+    tallies: usize,
+}
+
+impl Closed {
+    /// Asks for it.
+    fn new(tallies: usize) -> Closed {
+        // SAFETY: the system chooses where new memory stands.
+        let start = unsafe { mmap(null_mut(), 8 * tallies, NO_ACCESS, PRIVATE_MEMORY, -1, 0) };
+        assert!(start as isize != -1, "the system gives no room for {tallies} tallies");
+        Closed { start: start.cast(), tallies }
+    }
+
+    /// Opens a part of whole pages, to be read and written.
+    fn open(&mut self, page: usize, pages: usize) -> &mut [u64] {
+        assert!((page + pages) * PAGE <= self.tallies);
+        // SAFETY: the part lies within this memory, is 0 at first, and no other part is open.
+        unsafe {
+            let start = self.start.add(page * PAGE);
+            assert_eq!(mprotect(start.cast(), 8 * pages * PAGE, READ_AND_WRITE), 0);
+            slice::from_raw_parts_mut(start, pages * PAGE)
+        }
+    }
+}
+
+impl Drop for Closed {
+    /// Gives it back.
+    fn drop(&mut self) {
+        // SAFETY: the memory is this one's own.
+        unsafe { munmap(self.start.cast(), 8 * self.tallies) };
+    }
+}
+
+/// The longest run that is lent unread.
+const LONGEST: usize = 1 << 36;
+
+/// The answer for the first so many tallies of closed memory.
+fn charge_unread(memory: &Closed, prices: [u32; 8], length: usize) -> Charge {
+    assert!(length <= memory.tallies);
+    // SAFETY: the run is as long as it is said to be.
+    unsafe { cavzemil_charge_of(Prices { of: prices }, memory.start, length) }
+}
+
+/// Lengths of whole windows, far beyond the most and such as are short in 32 bits among them.
+fn whole_lengths() -> impl Iterator<Item = usize> {
+    let far = [8 << 16, (8 << 16) + 8, 1 << 32, (1 << 32) + 8, 8 << 32, (8 << 32) + 8, LONGEST - 8, LONGEST];
+    [8_008, 8_016, 16_000, 80_000].into_iter().chain(far)
+}
+
+/// Rule 11.10: good and bad prices.
+#[test]
+fn parts_of_windows_are_not_read() {
+    let memory = Closed::new(LONGEST);
+    let whole = whole_lengths().chain([8, 16, 800, 7_992, 8_000]);
+    for length in whole.flat_map(|length| (1..8).map(move |less| length - less)) {
+        for prices in [[0; 8], [1_000_000; 8], [1_000_001; 8]] {
+            assert_eq!(charge_unread(&memory, prices, length), Charge { refusal: 6, cents: 0 });
+        }
+    }
+}
+
+/// Rule 11.16: each price by itself.
+#[test]
+fn runs_with_a_bad_price_are_not_read() {
+    let memory = Closed::new(LONGEST);
+    for length in whole_lengths().chain([0, 8, 16, 800, 7_992, 8_000]) {
+        for colorant in 0..8 {
+            let mut prices = [1_000_000; 8];
+            prices[colorant] = 1_000_001;
+            assert_eq!(charge_unread(&memory, prices, length), Charge { refusal: 12, cents: 0 });
+        }
+    }
+}
+
+/// Rule 11.17: no window, and more than 1,000.
+#[test]
+fn runs_of_too_many_windows_are_not_read() {
+    let memory = Closed::new(LONGEST);
+    for length in whole_lengths().chain([0]) {
+        for prices in [[0; 8], [1_000_000; 8]] {
+            assert_eq!(charge_unread(&memory, prices, length), Charge { refusal: 13, cents: 0 });
+        }
+    }
+}
+
+/// Runs that end where readable memory ends; 64 windows fill a page, so that some also begin where it begins.
+#[test]
+fn nothing_beside_a_run_is_read() {
+    let mut random = Random::new(81);
+    for windows in [1, 2, 63, 64, 65, 128, 960, 999, 1_000] {
+        let length: usize = 8 * windows;
+        let pages = length.div_ceil(PAGE);
+        let mut memory = Closed::new((pages + 2) * PAGE);
+        let readable = memory.open(1, pages);
+        let first = readable.len() - length;
+        let tallies = &mut readable[first..];
+        tallies.fill_with(|| u64::from(random.between(0, 1 << 28)));
+        let prices = [0; 8].map(|_: u32| random.between(0, 1_000_000));
+        assert_eq!(charge(prices, tallies), Ok(charge_of(prices, tallies).cents));
+    }
+}
