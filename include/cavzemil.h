@@ -21,7 +21,7 @@
  *     9  packing: a cell is above 7; unpacking: a pixel is set in no plane or in several, or padding is set
  *    11  a primary's value is a NaN or beyond 0 to 200
  *    12  a price is above 1000000
- *    13  a job has no window or more than 1000, or the eight tallies of one add up to more than 4294967296
+ *    13  the windows of a job: it needs 1 to 1000, and in each the sum of the eight tallies at most 4294967296
  *   100  the separation is neither 0 nor 1; tested before all else (rule 14.3)
  *
  * (10 belongs to the program counts alone.) 1 to 4 are tested wherever a screen is handed in.
@@ -137,9 +137,9 @@ cavzemil_prediction cavzemil_predict(cavzemil_screen s, uint32_t separation, uin
 
 /* The charge of a job of 1 to 1000 windows (rules 15.1 to 15.4): each colorant's tallies are added up and paid at
    its price, and only what the eight cost together is rounded, up to a whole cent. The run has eight tallies for
-   each window, by colorant, and they may be what a renderer answered (rule 15.6). Charged one by one, the windows
-   cost as much or more, by less than a cent a window (rule 15.5). A run of more than 1000 windows is not read.
-   Refusals 6, 12, 13. */
+   each window, by colorant; those of a renderer's answer are always a window that is taken (rule 15.6). Charged
+   one by one, the windows cost as much or more, by less than a cent a window (rule 15.5). A run of more than 1000
+   windows is not read. Refusals 6, 12, 13. */
 cavzemil_charge cavzemil_charge_of(cavzemil_prices prices, const uint64_t *tallies, size_t tallies_len);
 
 #ifdef __cplusplus

@@ -3,7 +3,8 @@
     PYTHONPATH=scripts python3 -B crates/bill_test/expected.py > crates/bill_test/stdout
 """
 
-from rules import TOP, charge, windows_of
+from rules import TOP as LARGEST_PRICE
+from rules import charge, windows_of
 
 FULL = 4294967296
 EVEN = FULL // 8
@@ -41,6 +42,7 @@ def ends(first, last):
 
 print("# job: refusal cents")
 show("a cent a cell", HIGHEST, BRICK)
+show("a cent a cell, twice", HIGHEST, BRICK * 2)
 show("one cell", ONE, ends(1, 0))
 show("free ink", [0] * 8, BRICK)
 show("largest job", HIGHEST, [EVEN] * 8000)
@@ -55,7 +57,7 @@ for length in [0, 1, 7, 8, 9, 15, 16, 17, 7992, 7999, 8000, 8001, 8007, 8008, 80
     show(f"length {length}", HIGHEST, [1] * length)
 
 for place in range(8):
-    for price in 999999, 1000000, 1000001, TOP:
+    for price in 999999, 1000000, 1000001, LARGEST_PRICE:
         show(f"price {place} of {price}", changed([0] * 8, {place: price}), [10, 20, 30, 40, 50, 60, 70, 80])
 
 for place in 0, 7, 8, 15, 16, 23:
@@ -108,3 +110,4 @@ for name, first, second, third in [
     run = changed([0] * 24, {0: first, 11: second, 23: third})
     show_windows(name, ONE, run, {"first": 0, "second": 1, "third": 2})
 show_windows("eight cells in each of 1000 windows", ONE, [1] * 8000, {"first": 0, "last": -1})
+show_windows("a million cells in each of 1000 windows", ONE, [125000] * 8000, {"first": 0, "last": -1})

@@ -7,8 +7,8 @@ use crate::refusal::Refusal;
 /// of its windows, eight a window, one window after the other (rules 15.1 to 15.4).
 ///
 /// The cells of all windows are added up before they are priced, and the charge is rounded up once. So a job
-/// never costs more than its windows apart, and saves fewer cents than it has windows (rule 15.5). What a
-/// renderer answered may be handed on as it is (rule 15.6).
+/// never costs more than its windows apart, and saves fewer cents than it has windows (rule 15.5). The
+/// tallies of a renderer's answer may be handed on as they are (rule 15.6).
 ///
 /// Refusals: 6 where the length is no multiple of 8, 12 for a price above 1,000,000, 13 for no window, for
 /// more than 1,000, and for one of more than 4,294,967,296 cells (rules 11.10, 11.16 and 11.17).

@@ -45,8 +45,8 @@ pub enum Refusal {
     Primary(Colorant),
     /// 12: a price is above 1,000,000 cents for a million cells.
     Price,
-    /// 13: the job has no window or more than 1,000, or one whose tallies add up to more than the sheet's
-    /// 4,294,967,296 cells.
+    /// 13: the windows of the job aren't 1 to 1,000, or one of them has more cells than the sheet, which has
+    /// 4,294,967,296.
     Job,
 }
 

@@ -1,5 +1,5 @@
-//! What charge_of leaves unread: all of a run that is refused by its length, by a price or by its number of
-//! windows (rules 15.1 to 15.3), and what stands before and after a run that is charged.
+//! What charge_of leaves unread: all of a run that has too many windows (rule 15.3) and, beyond the rule, of one
+//! that its length or a price refuses, and what stands before and after a run that is charged.
 //!
 //! Such memory may not be read here: whoever does is stopped by the system with signal 11, and this test
 //! program with it. So it is a program of its own.

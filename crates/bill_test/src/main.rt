@@ -8,7 +8,7 @@ const FULL: u64 = 4294967296;
 // An eighth of them.
 const EVEN: u64 = 536870912;
 
-// The largest number.
+// The largest number of 64 bits.
 const TOP: u64 = 18446744073709551615;
 
 // Twice this is 0 in 64 bits.
@@ -32,15 +32,30 @@ fn main() {
     most_saved();
 }
 
-// The worked example (rule 12.15), one cell, free ink, the largest job, and no cell at all.
+// The worked example (rule 12.15): a window once and twice, one cell, free ink and the largest job; and no
+// cell at all.
 fn examples() {
     let highest = [1000000u32; 8];
     let largest = [EVEN; 8000];
     show_window(b"a cent a cell", highest, brick());
+    show_two_bricks(highest);
     show_window(b"one cell", [1u32; 8], ends(1, 0));
     show_window(b"free ink", [0u32; 8], brick());
     show(b"largest job", highest, &largest);
     show_window(b"no cell", highest, [0u64; 8]);
+}
+
+fn show_two_bricks(prices: [u32; 8]) {
+    let mut run = [0u64; 16];
+    run[0] = 26;
+    run[1] = 26;
+    run[3] = 27;
+    run[7] = 26;
+    run[8] = 26;
+    run[9] = 26;
+    run[11] = 27;
+    run[15] = 26;
+    show(b"a cent a cell, twice", prices, &run);
 }
 
 // Prices and tallies that all differ, so that each exchange of two shows.
@@ -270,13 +285,18 @@ fn show_job(name: &[u8], first: u64, second: u64, third: u64) {
     show_part(b"its third window", prices, &run, 16, 24);
 }
 
-// A job of 1,000 windows, and one of them: together these cost 999 cents more.
+// Jobs of 1,000 windows, each with two of these: a window costs a cent, and the windows together cost 999
+// cents more than the first job and as much as the second.
 fn most_saved() {
     let prices = [1u32; 8];
     let run = [1u64; 8000];
+    let whole = [125000u64; 8000];
     show(b"eight cells in each of 1000 windows", prices, &run);
     show_part(b"its first window", prices, &run, 0, 8);
     show_part(b"its last window", prices, &run, 7992, 8000);
+    show(b"a million cells in each of 1000 windows", prices, &whole);
+    show_part(b"its first window", prices, &whole, 0, 8);
+    show_part(b"its last window", prices, &whole, 7992, 8000);
 }
 
 // A hundred and five cells in half tones of cyan and magenta.

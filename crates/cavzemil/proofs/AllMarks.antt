@@ -53,4 +53,5 @@ marks =
       bad-colour = refl;
       billed = refl;
       unbilled = refl;
+      unknown-billed = refl;
     }

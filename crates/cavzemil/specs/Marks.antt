@@ -16,7 +16,7 @@ use Rattle.cavzemil.specs.declared.screens.Screen.{Screen}
 use Rattle.cavzemil.specs.declared.windows.Window.{Window}
 use Rattle.cavzemil.specs.Separations.{separationOf}
 use Rattle.cavzemil.specs.Screens.{screenOf, screenLaid, placeLaid, brickLaid}
-use Rattle.cavzemil.specs.Windows.{cellAnswer, renderAnswer, renderOutput, brickAnswer, brickOutput}
+use Rattle.cavzemil.specs.Windows.{unrendered, cellAnswer, renderAnswer, renderOutput, brickAnswer, brickOutput}
 use Rattle.cavzemil.specs.Colours.{countsAnswer, colourless, predictAnswer}
 use Rattle.cavzemil.specs.Bills.{chargeLaid}
 
@@ -69,3 +69,5 @@ pub record Marks : Type 0 where
   -- rule 12.15's bill, and no window
   pub billed : chargeLaid (charged (flat 1000000) tint) ≡ record { refusal = 0; cents = 105 }
   pub unbilled : chargeLaid (charged (flat 1000000) []) ≡ record { refusal = 13; cents = 0 }
+  -- rule 15.6, of an answer that is refused as 100
+  pub unknown-billed : chargeLaid (charged (flat 1000000) (unrendered .tallies)) ≡ record { refusal = 0; cents = 0 }
