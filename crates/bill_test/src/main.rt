@@ -58,19 +58,11 @@ fn show_two_bricks(prices: [u32; 8]) {
     show(b"a cent a cell, twice", prices, &run);
 }
 
-// Prices and tallies that all differ, so that each exchange of two shows.
+// Prices and tallies that all differ, so that each exchange of two shows: a window, and with it a second whose
+// tallies are in another order.
 fn places() {
     let rising = prices_of(1, 20, 300, 4000, 50000, 600000, 700007, 1000000);
     let falling = prices_of(1000000, 700007, 600000, 50000, 4000, 300, 20, 1);
-    let tallies = tallies_of(900000001, 80000002, 7000003, 600004, 50005, 4006, 307, 28);
-    show_window(b"rising prices", rising, tallies);
-    show_window(b"falling prices", falling, tallies);
-    show_pair(b"rising prices, two windows", rising);
-    show_pair(b"falling prices, two windows", falling);
-}
-
-// The same with a second window, its tallies in another order.
-fn show_pair(name: &[u8], prices: [u32; 8]) {
     let mut run = [0u64; 16];
     run[0] = 900000001;
     run[1] = 80000002;
@@ -88,7 +80,10 @@ fn show_pair(name: &[u8], prices: [u32; 8]) {
     run[13] = 31;
     run[14] = 800000037;
     run[15] = 241;
-    show(name, prices, &run);
+    show_part(b"rising prices", rising, &run, 0, 8);
+    show_part(b"falling prices", falling, &run, 0, 8);
+    show(b"rising prices, two windows", rising, &run);
+    show(b"falling prices, two windows", falling, &run);
 }
 
 // Refusals 6 and 13: lengths beside a multiple of 8, no window, and beside 1,000 windows.
