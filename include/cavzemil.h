@@ -4,11 +4,12 @@
  * Every call is a function of what it is handed, by the rules of docs/RULES.md, which are cited here by number.
  * Structs pass by value; memory is lent as a pointer and a length in elements, and a null pointer with length 0
  * is an empty run. Runs that are handed to one call and of which one is written must not overlap, and
- * cavzemil_predict asks for IEEE 754's default mode: to nearest, subnormal numbers kept (rule 14.2).
+ * cavzemil_predict and cavzemil_predict_cellular ask for IEEE 754's default mode: to nearest, subnormal numbers
+ * kept (rule 14.2).
  *
- * Refusals (rules 11.1 to 11.17). Each answer has a refusal, 0 where there is none; else it is the lowest number
- * that applies, every other number in the answer is 0 (refusal 11 carries its colorant), and lent memory stays
- * as it was.
+ * Refusals (rules 11.1 to 11.18). Each answer has a refusal, 0 where there is none; else it is the lowest number
+ * that applies, every other number in the answer is 0 (refusal 11 carries its colorant or set), and lent memory
+ * stays as it was.
  *
  *     1  the slope: it needs 1 <= a < b <= 64, and no common divisor of a and b above 1
  *     2  the cell count n: it needs 1 to 4096
@@ -19,9 +20,10 @@
  *     7  the run that is written has the wrong length
  *     8  the brick buffer has fewer than n places or, for cavzemil_render_brick, is not the screen's own brick
  *     9  packing: a cell is above 7; unpacking: a pixel is set in no plane or in several, or padding is set
- *    11  a primary's value is a NaN or beyond 0 to 200
+ *    11  a primary's value, of a colorant or of a set, is a NaN or beyond 0 to 200
  *    12  a price is above 1000000
  *    13  the windows of a job: it needs 1 to 1000, and in each the sum of the eight tallies at most 4294967296
+ *    14  for cavzemil_predict_cellular, in place of 6: its run has not 765 values; tested before 11 (rule 16.8)
  *   100  the separation is neither 0 nor 1; tested before all else (rule 14.3)
  *
  * (10 belongs to the program counts alone.) 1 to 4 are tested wherever a screen is handed in.
@@ -75,6 +77,9 @@ typedef struct { uint32_t refusal; uint64_t tallies[8]; } cavzemil_rendering;
 
 /* A predicted colour; refusal 11 carries the first colorant that has a value beyond its limits. */
 typedef struct { uint32_t refusal; uint32_t colorant; double x, y, z; } cavzemil_prediction;
+
+/* A colour predicted by sets of colorants; refusal 11 carries the lowest set that has a value beyond its limits. */
+typedef struct { uint32_t refusal; uint32_t set; double x, y, z; } cavzemil_cellular;
 
 /* Prices (rule 15.2): cents for a million cells, by colorant, each at most 1000000. */
 typedef struct { uint32_t of[8]; } cavzemil_prices;
@@ -134,6 +139,15 @@ uint32_t cavzemil_unpack(uint32_t columns, uint32_t rows, const uint8_t *planes,
    refused as 6 (rule 14.4). Refusals 100, 1 to 4, 6, 11. */
 cavzemil_prediction cavzemil_predict(cavzemil_screen s, uint32_t separation, uint8_t c, uint8_t m, uint8_t y,
                                      const double *primaries, size_t primaries_len);
+
+/* The colour of a patch of these ink values, predicted by sets of colorants (rules 16.1 to 16.8): the mean of eight
+   sets' primaries. The first set holds the colorant of the largest count, and each next takes in one colorant more,
+   by falling counts and at equal counts the lower number first; the k-th weighs k times what the k-th count has
+   more than the next. A set's number, 1 to 255, is the sum of 1 << j over its colorants j. The primaries are 765
+   values, X, Y, Z of each set in turn from 1 on, each 0 to 200, also where the set has no weight; another length is
+   refused as 14. Refusals 100, 1 to 4, 14, 11. */
+cavzemil_cellular cavzemil_predict_cellular(cavzemil_screen s, uint32_t separation, uint8_t c, uint8_t m,
+                                            uint8_t y, const double *primaries, size_t primaries_len);
 
 /* The charge of a job of 1 to 1000 windows (rules 15.1 to 15.4): each colorant's tallies are added up and paid at
    its price, and only what the eight cost together is rounded, up to a whole cent. The run has eight tallies for

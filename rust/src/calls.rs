@@ -13,7 +13,7 @@
 //! ```
 
 use crate::ffi::{
-    self, BrickSizes, Cell, Charge, Counts, Place, Prediction, Prices, Rendering, Screen, Window,
+    self, BrickSizes, Cell, Cellular, Charge, Counts, Place, Prediction, Prices, Rendering, Screen, Window,
 };
 
 /// The number of the rules that the linked archive follows (rule 14.1); see [`crate::RULES`].
@@ -105,6 +105,13 @@ pub fn unpack(columns: u32, rows: u32, planes: &[u8], cells: &mut [u8]) -> u32 {
 pub fn predict(s: Screen, separation: u32, [c, m, y]: [u8; 3], primaries: &[f64]) -> Prediction {
     // SAFETY: the pointer comes with the length of its own slice.
     unsafe { ffi::cavzemil_predict(s, separation, c, m, y, primaries.as_ptr(), primaries.len()) }
+}
+
+/// The predicted colour of inks c, m, y (rule 16.1), from X, Y, Z a set of colorants; other than 765 values
+/// are refused as 14 (rule 16.2).
+pub fn predict_cellular(s: Screen, separation: u32, [c, m, y]: [u8; 3], primaries: &[f64]) -> Cellular {
+    // SAFETY: the pointer comes with the length of its own slice.
+    unsafe { ffi::cavzemil_predict_cellular(s, separation, c, m, y, primaries.as_ptr(), primaries.len()) }
 }
 
 /// The charge of a job (rule 15.4), from prices by colorant and its windows' tallies, eight a window; where 8

@@ -86,6 +86,18 @@ impl Colorant {
         self as u8
     }
 
+    /// The colorants of a set, in their order, by its number: the sum of 2 to the number of each (rule 16.2).
+    ///
+    /// ```
+    /// use cavzemil::Colorant;
+    ///
+    /// let colorants: Vec<Colorant> = Colorant::of_set(1 + 8 + 128).collect();
+    /// assert_eq!(colorants, [Colorant::Cyan, Colorant::Blue, Colorant::White]);
+    /// ```
+    pub fn of_set(set: u8) -> impl Iterator<Item = Colorant> {
+        Colorant::ALL.into_iter().filter(move |colorant| set >> colorant.number() & 1 == 1)
+    }
+
     /// The colorant that the library answered by number.
     pub(crate) fn from_answer(number: u32) -> Colorant {
         Colorant::ALL[number as usize]

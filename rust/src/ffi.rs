@@ -91,6 +91,17 @@ pub struct Prediction {
     pub z: f64,
 }
 
+/// The answer of [`cavzemil_predict_cellular`]; refusal 11 carries its set.
+#[repr(C)]
+#[derive(Clone, Copy, Debug, PartialEq)]
+pub struct Cellular {
+    pub refusal: u32,
+    pub set: u32,
+    pub x: f64,
+    pub y: f64,
+    pub z: f64,
+}
+
 /// What a million cells of each colorant cost, in cents, at most 1,000,000 (rule 15.2).
 #[repr(C)]
 #[derive(Clone, Copy, Debug, PartialEq, Eq, Hash)]
@@ -180,6 +191,17 @@ extern "C" {
         primaries: *const f64,
         primaries_len: usize,
     ) -> Prediction;
+
+    /// The predicted colour from 765 values, X, Y, Z a set of colorants.
+    pub fn cavzemil_predict_cellular(
+        s: Screen,
+        separation: u32,
+        c: u8,
+        m: u8,
+        y: u8,
+        primaries: *const f64,
+        primaries_len: usize,
+    ) -> Cellular;
 
     /// The charge of a job from its windows' tallies, eight a window.
     pub fn cavzemil_charge_of(prices: Prices, tallies: *const u64, tallies_len: usize) -> Charge;

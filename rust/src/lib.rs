@@ -22,9 +22,10 @@
 //! ```
 //!
 //! [`pack`] turns cells into plates, eight planes of one bit a cell: a set bit in a colorant's plane means
-//! that this ink prints at that pixel (rule 8.2). [`Screen::predict`] says what colour a patch will have, and
-//! [`charge`] what the ink of a job costs, by the tallies of its windows (rule 15.4). A call that can't be
-//! served answers a [`Refusal`], and then lent memory stays as it was (rule 11.3).
+//! that this ink prints at that pixel (rule 8.2). [`Screen::predict`] says what colour a patch will have, by
+//! the colours of eight inks, and [`Screen::predict_cellular`] by those of all sets of them (rule 16.1).
+//! [`charge`] says what the ink of a job costs, by the tallies of its windows (rule 15.4). A call that can't
+//! be served answers a [`Refusal`], and then lent memory stays as it was (rule 11.3).
 
 mod bill;
 pub mod calls;
@@ -50,4 +51,4 @@ pub use screen::Brick;
 /// ```
 /// assert_eq!(cavzemil::calls::rules(), cavzemil::RULES);
 /// ```
-pub const RULES: u32 = 1;
+pub const RULES: u32 = 2;

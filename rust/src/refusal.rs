@@ -1,10 +1,11 @@
-//! Refusals (rules 11.1 to 11.17).
+//! Refusals (rules 11.1 to 11.18).
 
 use crate::colour::Colorant;
 use std::error::Error;
 use std::fmt;
 
-/// Why a call can't be served; where several refusals apply, it is that of the lowest number (rule 11.2).
+/// Why a call can't be served; where several refusals apply, it is that of the lowest number (rule 11.2), but
+/// 14 before 11 (rule 16.8).
 ///
 /// Number 10 is the counts program's alone (rule 11.14), and no call here can meet it.
 ///
@@ -43,11 +44,16 @@ pub enum Refusal {
     Plates,
     /// 11: a primary's value isn't 0 to 200; this is the first such colorant.
     Primary(Colorant),
+    /// 11 of a cellular prediction: a value of some set's primary isn't 0 to 200; this is the lowest such
+    /// set, by its number, 1 to 255 (rules 16.2 and 16.8).
+    PrimarySet(u8),
     /// 12: a price is above 1,000,000 cents for a million cells.
     Price,
     /// 13: the windows of the job aren't 1 to 1,000, or one of them has more cells than the sheet, which has
     /// 4,294,967,296.
     Job,
+    /// 14: the primaries of a cellular prediction aren't 765 values, three for each of 255 sets.
+    PrimariesLength,
 }
 
 impl Refusal {
@@ -63,9 +69,10 @@ impl Refusal {
             Refusal::OutputLength => 7,
             Refusal::Brick => 8,
             Refusal::Plates => 9,
-            Refusal::Primary(_) => 11,
+            Refusal::Primary(_) | Refusal::PrimarySet(_) => 11,
             Refusal::Price => 12,
             Refusal::Job => 13,
+            Refusal::PrimariesLength => 14,
         }
     }
 
@@ -89,8 +96,17 @@ impl Refusal {
             11 => Refusal::Primary(Colorant::from_answer(colorant)),
             12 => Refusal::Price,
             13 => Refusal::Job,
+            14 => Refusal::PrimariesLength,
             _ => panic!("the library answered {number}, which is no refusal of this call"),
         })
+    }
+
+    /// The same of a cellular prediction, whose refusal 11 reads its set.
+    pub(crate) fn check_cellular(number: u32, set: u32) -> Result<(), Refusal> {
+        match number {
+            11 => Err(Refusal::PrimarySet(set.try_into().expect("the library's sets are 1 to 255"))),
+            _ => Refusal::check(number, 0),
+        }
     }
 }
 
@@ -112,8 +128,15 @@ impl fmt::Display for Refusal {
             Refusal::Primary(colorant) => {
                 return write!(formatter, "a value of the {colorant} primary is not 0 to 200 (refusal 11)");
             }
+            Refusal::PrimarySet(set) => {
+                let names: Vec<String> =
+                    Colorant::of_set(*set).map(|colorant| colorant.to_string()).collect();
+                let names = names.join(", ");
+                return write!(formatter, "a value of set {set} ({names}) is not 0 to 200 (refusal 11)");
+            }
             Refusal::Price => "a price is above 1,000,000 cents for a million cells",
             Refusal::Job => "a job needs 1 to 1,000 windows, each of at most 4,294,967,296 cells",
+            Refusal::PrimariesLength => "a cellular prediction needs 765 values, X, Y, Z of each of 255 sets",
         };
         write!(formatter, "{wrong} (refusal {})", self.number())
     }

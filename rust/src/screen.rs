@@ -185,4 +185,62 @@ impl Screen {
         Refusal::check(prediction.refusal, prediction.colorant)?;
         Ok(Xyz { x: prediction.x, y: prediction.y, z: prediction.z })
     }
+
+    /// The colour of a patch from the colours of sets of colorants: the mean of eight sets, each with one
+    /// colorant more than the set before, weighed by the counts (rules 16.1 to 16.8).
+    ///
+    /// The primaries are 765 values: X, Y, Z of each of 255 sets, one after the other by the sets' numbers. A
+    /// set's number is the sum of 2 to the number of each of its colorants, so 1 to 255; [`Colorant::of_set`]
+    /// goes the other way. Its colour is that of a patch whose cells its colorants share evenly.
+    ///
+    /// Refused as 14 for other than 765 values, and then as 11, which carries the lowest set that has a value
+    /// which isn't 0 to 200, whether this patch needs it or not.
+    ///
+    /// ```
+    /// use cavzemil::{Colorant, Inks, Refusal, Screen, Separation};
+    ///
+    /// // The solid inks, by colorant. A set that nobody measured gets the mean of its inks.
+    /// let solid = [
+    ///     [16.0, 22.0, 66.0],
+    ///     [32.0, 16.0, 24.0],
+    ///     [70.0, 78.0, 8.0],
+    ///     [8.0, 4.0, 26.0],
+    ///     [10.0, 20.0, 8.0],
+    ///     [28.0, 15.0, 3.0],
+    ///     [2.0, 2.0, 2.0],
+    ///     [80.0, 84.0, 90.0],
+    /// ];
+    /// let mut primaries = [[0.0; 3]; 255];
+    /// for set in 1..=255 {
+    ///     let inks: Vec<usize> = Colorant::of_set(set).map(|ink| ink.number().into()).collect();
+    ///     let sum = |xyz| inks.iter().map(|ink| solid[*ink][xyz]).sum::<f64>();
+    ///     primaries[usize::from(set) - 1] = [0, 1, 2].map(|xyz| sum(xyz) / inks.len() as f64);
+    /// }
+    /// // Cyan, magenta, blue and white in even shares were measured, and are darker than their mean.
+    /// primaries[1 + 2 + 8 + 128 - 1] = [30.0, 28.0, 46.0];
+    ///
+    /// // The counts are 26, 26, 0, 27, 0, 0, 0, 26: 104 of the 105 cells go to these four, 1 to blue alone.
+    /// let screen = Screen { a: 4, b: 7, n: 105, k: 2, g: 0 };
+    /// let predict = |primaries: &[[f64; 3]]| {
+    ///     let inks = Inks { c: 128, m: 128, y: 0 };
+    ///     screen.predict_cellular(Separation::Demichel, inks, primaries.as_flattened())
+    /// };
+    /// assert_eq!(predict(&primaries)?.y, (1.0 * 4.0 + 104.0 * 28.0) / 105.0);
+    ///
+    /// primaries[1 + 64 - 1][2] = -0.5;
+    /// let refusal = predict(&primaries).unwrap_err();
+    /// assert_eq!(refusal, Refusal::PrimarySet(65));
+    /// assert_eq!(refusal.to_string(), "a value of set 65 (cyan, black) is not 0 to 200 (refusal 11)");
+    /// # Ok::<(), Refusal>(())
+    /// ```
+    pub fn predict_cellular(
+        self,
+        separation: Separation,
+        inks: Inks,
+        primaries: &[f64],
+    ) -> Result<Xyz, Refusal> {
+        let cellular = calls::predict_cellular(self, separation.number(), inks.values(), primaries);
+        Refusal::check_cellular(cellular.refusal, cellular.set)?;
+        Ok(Xyz { x: cellular.x, y: cellular.y, z: cellular.z })
+    }
 }

@@ -22,7 +22,7 @@ fn check<T>(answer: Result<T, Refusal>, expected: Refusal, number: u32) {
     assert!(found.to_string().ends_with(&format!("(refusal {number})")), "{found}");
 }
 
-/// Rules 11.5 to 11.13 and rules 11.15 to 11.17.
+/// Rules 11.5 to 11.13 and rules 11.15 to 11.18.
 #[test]
 fn every_refusal_has_its_number() {
     check(Screen { a: 7, ..SCREEN }.phase_at(0, 0), Refusal::Slope, 1);
@@ -43,6 +43,36 @@ fn every_refusal_has_its_number() {
     check(charge([0; 8], &[0; 7]), Refusal::InputLength, 6);
     check(charge([0, 0, 0, 0, 0, 0, 0, 1_000_001], &[0; 8]), Refusal::Price, 12);
     check(charge([0; 8], &[]), Refusal::Job, 13);
+    let short = SCREEN.predict_cellular(Separation::Kueppers, INKS, &[0.0; 764]);
+    check(short, Refusal::PrimariesLength, 14);
+}
+
+/// Rule 16.8: each refusal of a cellular prediction, with all that come after it.
+#[test]
+fn every_refusal_of_a_cellular_prediction_arrives() {
+    let call =
+        |screen: Screen, primaries: &[f64]| screen.predict_cellular(Separation::Demichel, INKS, primaries);
+    check(call(Screen { a: 4, b: 8, n: 0, k: 17, g: 9 }, &[-1.0; 24]), Refusal::Slope, 1);
+    check(call(Screen { n: 0, k: 17, g: 9, ..SCREEN }, &[-1.0; 24]), Refusal::CellCount, 2);
+    check(call(Screen { k: 17, g: 70, ..SCREEN }, &[-1.0; 24]), Refusal::Subscreens, 3);
+    check(call(Screen { g: 70, ..SCREEN }, &[-1.0; 24]), Refusal::Offset, 4);
+    check(call(SCREEN, &[-1.0; 24]), Refusal::PrimariesLength, 14);
+    for set in 1..=255 {
+        let mut primaries = [200.0; 765];
+        primaries[3 * usize::from(set) - 1..].fill(-1.0);
+        check(call(SCREEN, &primaries), Refusal::PrimarySet(set), 11);
+    }
+}
+
+/// Rule 16.2: a refusal names the colorants of its set.
+#[test]
+fn sets_are_told_by_their_colorants() {
+    let words = |set| Refusal::PrimarySet(set).to_string();
+    assert_eq!(words(128), "a value of set 128 (white) is not 0 to 200 (refusal 11)");
+    assert_eq!(words(42), "a value of set 42 (magenta, blue, red) is not 0 to 200 (refusal 11)");
+    for set in 1..=255 {
+        assert_eq!(Colorant::of_set(set).map(|colorant| 1 << colorant.number()).sum::<u8>(), set);
+    }
 }
 
 /// Rule 4.2.
@@ -87,6 +117,18 @@ fn predictions_are_handed_on() {
     let values: Vec<f64> = primaries.iter().flat_map(|xyz| [xyz.x, xyz.y, xyz.z]).collect();
     let [x, y, z] = plain::predict(PLAIN, 1, [INKS.c, INKS.m, INKS.y], &values).xyz;
     assert_eq!(SCREEN.predict(Separation::Kueppers, INKS, &primaries), Ok(Xyz { x, y, z }));
+}
+
+#[test]
+fn cellular_predictions_are_handed_on() {
+    let primaries: Vec<f64> = (0..765).map(|place| f64::from(place * 317 % 2000) / 10.0).collect();
+    for separation in [Separation::Demichel, Separation::Kueppers] {
+        let inks = [INKS.c, INKS.m, INKS.y];
+        let expected = plain::predict_cellular(PLAIN, separation.number(), inks, &primaries);
+        assert_eq!(expected.refusal, 0);
+        let [x, y, z] = expected.xyz;
+        assert_eq!(SCREEN.predict_cellular(separation, INKS, &primaries), Ok(Xyz { x, y, z }));
+    }
 }
 
 #[test]

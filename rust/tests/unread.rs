@@ -1,12 +1,14 @@
-//! What charge_of leaves unread: all of a run that has too many windows (rule 15.3) and, beyond the rule, of one
-//! that its length or a price refuses, and what stands before and after a run that is charged.
+//! What is left unread. By charge_of: all of a run that has too many windows (rule 15.3) and, beyond the
+//! rule, of one that its length or a price refuses, and what stands before and after a run that is charged.
+//! By predict_cellular, beyond the rules: all of a run of another length than 765, and what stands before and
+//! after one of 765.
 //!
 //! Such memory may not be read here: whoever does is stopped by the system with signal 11, and this test
 //! program with it. So it is a program of its own.
 
-use cavzemil::charge;
-use cavzemil::ffi::{cavzemil_charge_of, Charge, Prices};
-use cavzemil_plain::{charge_of, random::Random};
+use cavzemil::ffi::{cavzemil_charge_of, cavzemil_predict_cellular, Cellular, Charge, Prices};
+use cavzemil::{charge, Inks, Screen, Separation, Xyz};
+use cavzemil_plain::{charge_of, predict_cellular, random::Random};
 use std::ffi::{c_int, c_long, c_void};
 use std::ptr::null_mut;
 use std::slice;
@@ -36,27 +38,28 @@ const READ_AND_WRITE: c_int = 3;
 /// Memory that is private, in no file and not kept ready.
 const PRIVATE_MEMORY: c_int = 0x02 + 0x20 + 0x4000;
 
-/// The tallies of a page of memory.
+/// The tallies, or the values of primaries, of a page of memory; both have 8 bytes.
 const PAGE: usize = 4096 / 8;
 
-/// Memory for so many tallies, none of which may be read.
-struct Closed {
-    start: *mut u64,
-    tallies: usize,
+/// Memory for so many tallies or values, none of which may be read.
+struct Closed<T> {
+    start: *mut T,
+    length: usize,
 }
 
-impl Closed {
+impl<T> Closed<T> {
     /// Asks for it.
-    fn new(tallies: usize) -> Closed {
+    fn new(length: usize) -> Closed<T> {
+        assert_eq!(size_of::<T>(), 8);
         // SAFETY: the system chooses where new memory stands.
-        let start = unsafe { mmap(null_mut(), 8 * tallies, NO_ACCESS, PRIVATE_MEMORY, -1, 0) };
-        assert!(start as isize != -1, "the system gives no room for {tallies} tallies");
-        Closed { start: start.cast(), tallies }
+        let start = unsafe { mmap(null_mut(), 8 * length, NO_ACCESS, PRIVATE_MEMORY, -1, 0) };
+        assert!(start as isize != -1, "the system gives no room for {length} numbers");
+        Closed { start: start.cast(), length }
     }
 
     /// Opens a part of whole pages, to be read and written.
-    fn open(&mut self, page: usize, pages: usize) -> &mut [u64] {
-        assert!((page + pages) * PAGE <= self.tallies);
+    fn open(&mut self, page: usize, pages: usize) -> &mut [T] {
+        assert!((page + pages) * PAGE <= self.length);
         // SAFETY: the part lies within this memory, is 0 at first, and no other part is open.
         unsafe {
             let start = self.start.add(page * PAGE);
@@ -66,11 +69,11 @@ impl Closed {
     }
 }
 
-impl Drop for Closed {
+impl<T> Drop for Closed<T> {
     /// Gives it back.
     fn drop(&mut self) {
         // SAFETY: the memory is this one's own.
-        unsafe { munmap(self.start.cast(), 8 * self.tallies) };
+        unsafe { munmap(self.start.cast(), 8 * self.length) };
     }
 }
 
@@ -78,8 +81,8 @@ impl Drop for Closed {
 const LONGEST: usize = 1 << 36;
 
 /// The answer for the first so many tallies of closed memory.
-fn charge_unread(memory: &Closed, prices: [u32; 8], length: usize) -> Charge {
-    assert!(length <= memory.tallies);
+fn charge_unread(memory: &Closed<u64>, prices: [u32; 8], length: usize) -> Charge {
+    assert!(length <= memory.length);
     // SAFETY: the run is as long as it is said to be.
     unsafe { cavzemil_charge_of(Prices { of: prices }, memory.start, length) }
 }
@@ -140,5 +143,41 @@ fn nothing_beside_a_run_is_read() {
         tallies.fill_with(|| u64::from(random.between(0, 1 << 28)));
         let prices = [0; 8].map(|_: u32| random.between(0, 1_000_000));
         assert_eq!(charge(prices, tallies), Ok(charge_of(prices, tallies).cents));
+    }
+}
+
+/// A screen that is admitted.
+const SCREEN: Screen = Screen { a: 4, b: 7, n: 105, k: 2, g: 0 };
+
+/// Rule 11.18: lengths about 765, far beyond it, and such as are 765 in 16 or in 32 bits.
+#[test]
+fn primaries_of_another_length_are_not_read() {
+    let memory = Closed::new(LONGEST);
+    let far = [(1 << 16) + 765, 1 << 32, (1 << 32) + 765, (8 << 32) + 765, LONGEST];
+    for length in [0, 1, 24, 255, 762, 764, 766, 768, 1530].into_iter().chain(far) {
+        for separation in [0, 1] {
+            // SAFETY: the run is as long as it is said to be.
+            let answer =
+                unsafe { cavzemil_predict_cellular(SCREEN, separation, 1, 2, 3, memory.start, length) };
+            assert_eq!(answer, Cellular { refusal: 14, set: 0, x: 0.0, y: 0.0, z: 0.0 });
+        }
+    }
+}
+
+/// A run that begins where readable memory begins, and one that ends where it ends.
+#[test]
+fn nothing_beside_primaries_is_read() {
+    let mut random = Random::new(82);
+    let plain_screen = cavzemil_plain::Screen { a: 4, b: 7, n: 105, k: 2, g: 0 };
+    for first in [0, 2 * PAGE - 765] {
+        let mut memory = Closed::new(4 * PAGE);
+        let primaries = &mut memory.open(1, 2)[first..first + 765];
+        primaries.fill_with(|| f64::from(random.between(0, 2000)) / 10.0);
+        for c in 0..=255 {
+            let inks = Inks { c, m: 255 - c, y: 90 };
+            let [x, y, z] = predict_cellular(plain_screen, 0, [c, 255 - c, 90], primaries).xyz;
+            let found = SCREEN.predict_cellular(Separation::Demichel, inks, primaries);
+            assert_eq!(found, Ok(Xyz { x, y, z }));
+        }
     }
 }

@@ -6,7 +6,7 @@
 import struct
 
 from rules import COLORANTS, COLOURS, RULES_IN_FORCE, SEPARATIONS
-from rules import brick, brick_phases, charge, colorants, counts, numbers, phase
+from rules import admitted, brick, brick_phases, cellular, charge, colorants, counts, mean, numbers, phase
 from rules import refusal as screen_refusal
 
 SCREEN = 4, 7, 30, 3, 5
@@ -27,6 +27,7 @@ PRIMARIES = [
     22.1, 28.3, 90.7, 38.0, 20.2, 17.6, 76.9, 82.4, 10.3, 8.8, 6.1, 30.0,
     9.5, 17.7, 8.2, 32.9, 18.4, 4.6, 2.0, 2.5, 2.7, 88.0, 92.3, 98.1,
 ]
+RECORDS = [place * 7919 % 20001 / 100 for place in range(765)]
 PRICES = [1000000, 250000, 31, 4000, 750001, 90210, 5, 123456]
 JOB = [
     4000000000, 200000000, 90000000, 4000000, 900000, 60000, 7000, 296,
@@ -109,20 +110,27 @@ def show_brick_window(call, s, sep, places=31):
     show("render_brick", call, r, tallies(cells) + lent("out", cells, 17) + buffer)
 
 
-def colour(s, sep, primaries):
-    """X, Y and Z: a sum that begins with 0, and is divided."""
-    sums = [0.0, 0.0, 0.0]
-    for j, count in enumerate(counts(s, sep, TINT)):
-        sums = [total + float(count) * value for total, value in zip(sums, primaries[3 * j : 3 * j + 3])]
-    return [total / float(s[2]) for total in sums]
+def xyz(values):
+    """X, Y and Z by their bits."""
+    return "".join(f", {name} {struct.pack('>d', value).hex()}" for name, value in zip("xyz", values))
 
 
 def show_colour(call, s, sep, primaries=PRIMARIES):
-    bad = [place // 3 for place, value in enumerate(primaries) if not 0 <= value <= 200]
+    bad = [place // 3 for place, value in enumerate(primaries) if not admitted(value)]
     r = refusal(s, sep) or (6 if len(primaries) != 24 else 11 if bad else 0)
-    values = [0.0] * 3 if r else colour(s, sep, primaries)
-    bits = "".join(f", {name} {struct.pack('>d', value).hex()}" for name, value in zip("xyz", values))
-    show("predict", call, r, f", colorant {bad[0] if r == 11 else 0}{bits}")
+    values = [0.0] * 3 if r else [mean(counts(s, sep, TINT), primaries[channel::3], s[2]) for channel in range(3)]
+    show("predict", call, r, f", colorant {bad[0] if r == 11 else 0}{xyz(values)}")
+
+
+def show_cellular(call, s, sep, run=RECORDS):
+    r, number, values = cellular(s, sep, TINT, run) if sep in SEPARATIONS else (100, 0, [0.0] * 3)
+    show("predict_cellular", call, r, f", set {number}{xyz(values)}")
+
+
+def changed(changes, run=RECORDS):
+    """The records with the values of some places, each named by its set and its channel, put there."""
+    places = {3 * (number - 1) + channel: value for (number, channel), value in changes.items()}
+    return [places.get(place, value) for place, value in enumerate(run)]
 
 
 def planes_of(cells):
@@ -169,6 +177,7 @@ def show_separation(call, s, sep):
     show_window(call, s, sep)
     show_brick_window(call, s, sep)
     show_colour(call, s, sep)
+    show_cellular(call, s, sep)
 
 
 print(f"rules {RULES_IN_FORCE}")
@@ -198,6 +207,21 @@ show_brick_window("brick too short", SCREEN, "kueppers", 29)
 show_colour("primaries too short", SCREEN, "kueppers", PRIMARIES[:23])
 show_colour("green too bright", SCREEN, "kueppers", PRIMARIES[:13] + [200.5] + PRIMARIES[14:])
 
+zeros = changed({(number, 1): -0.0 for number in range(1, 256)})
+bad = changed({(226, 0): -1.0, (200, 2): 1e300}, zeros)
+show_cellular("records too short", SCREEN, "kueppers", RECORDS[:764])
+show_cellular("records too long", SCREEN, "kueppers", RECORDS + [0.0])
+show_cellular("slope 4/8, records too short", REFUSED["slope 4/8"], "kueppers", RECORDS[:764])
+show_cellular("set 226 of 200", SCREEN, "kueppers", changed({(226, 1): 200.0}))
+show_cellular("set 226 too bright", SCREEN, "kueppers", changed({(226, 1): 200.5}))
+show_cellular("set 1 too bright", SCREEN, "kueppers", changed({(1, 0): 200.5}))
+show_cellular("set 255 too dark", SCREEN, "kueppers", changed({(255, 2): -0.5}))
+show_cellular("set 3 too bright, records too short", SCREEN, "kueppers", changed({(3, 0): 200.5})[:764])
+show_cellular("offset 30, set 3 too bright", REFUSED["offset 30"], "kueppers", changed({(3, 0): 200.5}))
+show_cellular("minus zeros", SCREEN, "kueppers", zeros)
+show_cellular("sets 200 and 226 bad", SCREEN, "kueppers", bad)
+show_cellular("separation 256, all else bad", REFUSED["slope 4/8"], "separation 256", bad[:764])
+
 planes = planes_of(CELLS)
 show_packing("served", CELLS)
 show_packing("cells too short", CELLS[:21])
@@ -223,3 +247,4 @@ show("render", "nothing lent", window_refusal(SCREEN, "kueppers", (8, 13, 0, 3),
 show("pack", "nothing lent", 0)
 show("unpack", "nothing lent", 0)
 show_charge("nothing lent", [])
+show_cellular("nothing lent", SCREEN, "kueppers", [])

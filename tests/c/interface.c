@@ -12,7 +12,7 @@
 enum { N = 30, PLACES = N + 2, X = 8, Y = 13, WIDE = 5, HIGH = 3, CELLS = WIDE * HIGH };
 enum { PLATE_WIDE = 11, PLATE_HIGH = 2, PLATE_CELLS = PLATE_WIDE * PLATE_HIGH, PLANES = 8 * PLATE_HIGH * 2 };
 enum { TALLIES = 16, MOST_TALLIES = 8000, MOST_PRICE = 1000000 };
-enum { VALUES = 24, SHEET = 65536, GUARDS = 2, UNWRITTEN = 170 };
+enum { VALUES = 24, SETS = 255, RECORDS = 3 * SETS, SHEET = 65536, GUARDS = 2, UNWRITTEN = 170 };
 
 static const cavzemil_screen screen = {.a = 4, .b = 7, .n = N, .k = 3, .g = 5};
 static const struct { const char *call; cavzemil_screen s; } refused[] = {
@@ -33,6 +33,7 @@ static const double primaries[VALUES] = {
     22.1, 28.3, 90.7, 38,   20.2, 17.6, 76.9, 82.4, 10.3, 8.8, 6.1,  30,
     9.5,  17.7, 8.2,  32.9, 18.4, 4.6,  2,    2.5,  2.7,  88,  92.3, 98.1,
 };
+static double records[RECORDS + GUARDS];
 static const cavzemil_prices prices = {.of = {MOST_PRICE, 250000, 31, 4000, 750001, 90210, 5, 123456}};
 static const uint64_t job[TALLIES] = {
     4000000000, 200000000, 90000000, 4000000,   900000, 60000,     7000, 296,
@@ -152,6 +153,18 @@ static void show_colour(const char *call, cavzemil_screen s, uint32_t separation
     printf("\n");
 }
 
+/* Prints the colour predicted for the tint by sets of colorants. */
+static void show_cellular(const char *call, cavzemil_screen s, uint32_t separation, const double *xyz,
+                          size_t values) {
+    cavzemil_cellular colour = cavzemil_predict_cellular(s, separation, tint.c, tint.m, tint.y, xyz, values);
+    print_call("predict_cellular", call, colour.refusal);
+    printf(", set %" PRIu32, colour.set);
+    print_value("x", colour.x);
+    print_value("y", colour.y);
+    print_value("z", colour.z);
+    printf("\n");
+}
+
 /* Packs cells into planes, and prints the planes. */
 static void show_packing(const char *call, const uint8_t *from, size_t from_length, size_t planes_length) {
     uint8_t planes[PLANES + GUARDS];
@@ -212,6 +225,7 @@ static void show_separation(const char *call, cavzemil_screen s, uint32_t separa
     show_window(call, s, separation, window, sizeof input, CELLS);
     show_brick_window(call, s, separation, N + 1);
     show_colour(call, s, separation, primaries, VALUES);
+    show_cellular(call, s, separation, records, RECORDS);
 }
 
 /* Prints what is answered where a place, a window, a length or a primary is too much, and at the sheet's end. */
@@ -231,6 +245,45 @@ static void show_limits(void) {
     memcpy(values, primaries, sizeof values);
     values[3 * CAVZEMIL_GREEN + 1] = 200.5;
     show_colour("green too bright", screen, CAVZEMIL_KUEPPERS, values, VALUES);
+}
+
+/* Fills the records of all sets, and a few places more, with values of which no two are equal. */
+static void fill_records(void) {
+    for (int place = 0; place < RECORDS + GUARDS; place++) {
+        records[place] = place * 7919 % 20001 / 100.0;
+    }
+}
+
+/* Prints what is answered for records of which one value is another: that of a set's X, Y or Z, counted from 0. */
+static void show_set(const char *call, cavzemil_screen s, int set, int channel, double value, size_t values) {
+    double xyz[RECORDS + GUARDS];
+    memcpy(xyz, records, sizeof xyz);
+    xyz[3 * (set - 1) + channel] = value;
+    show_cellular(call, s, CAVZEMIL_KUEPPERS, xyz, values);
+}
+
+/* Prints what is answered where the records are too few, too many or bad, and for minus zeros. By Kueppers three
+   colorants of the tint have equal counts, and the sets 2 and 226 alone have weight. */
+static void show_sets(void) {
+    double xyz[RECORDS + GUARDS];
+    show_cellular("records too short", screen, CAVZEMIL_KUEPPERS, records, RECORDS - 1);
+    show_cellular("records too long", screen, CAVZEMIL_KUEPPERS, records, RECORDS + 1);
+    show_cellular("slope 4/8, records too short", refused[0].s, CAVZEMIL_KUEPPERS, records, RECORDS - 1);
+    show_set("set 226 of 200", screen, 226, 1, 200, RECORDS);
+    show_set("set 226 too bright", screen, 226, 1, 200.5, RECORDS);
+    show_set("set 1 too bright", screen, 1, 0, 200.5, RECORDS);
+    show_set("set 255 too dark", screen, SETS, 2, -0.5, RECORDS);
+    show_set("set 3 too bright, records too short", screen, 3, 0, 200.5, RECORDS - 1);
+    show_set("offset 30, set 3 too bright", refused[3].s, 3, 0, 200.5, RECORDS);
+    memcpy(xyz, records, sizeof xyz);
+    for (int set = 1; set <= SETS; set++) {
+        xyz[3 * (set - 1) + 1] = -0.0;
+    }
+    show_cellular("minus zeros", screen, CAVZEMIL_KUEPPERS, xyz, RECORDS);
+    xyz[3 * (226 - 1)] = -1;
+    xyz[3 * (200 - 1) + 2] = 1e300;
+    show_cellular("sets 200 and 226 bad", screen, CAVZEMIL_KUEPPERS, xyz, RECORDS);
+    show_cellular("separation 256, all else bad", refused[0].s, 256, xyz, RECORDS - 1);
 }
 
 /* Prints plates packed and unpacked, and what refuses them; the last of the cells, an 8, is one too many. */
@@ -279,7 +332,7 @@ static void show_charge_limits(void) {
     show_charge("every bit set", prices, tallies, TALLIES);
 }
 
-/* Prints what a window, plates and a job without cells answer, every pointer null. */
+/* Prints what a window, plates, a job and records of nothing answer, every pointer null. */
 static void show_nothing_lent(void) {
     const cavzemil_window empty = {.x = X, .y = Y, .columns = 0, .rows = HIGH};
     print_rendering("render", "nothing lent", cavzemil_render(screen, CAVZEMIL_KUEPPERS, empty, NULL, 0, NULL, 0));
@@ -289,10 +342,12 @@ static void show_nothing_lent(void) {
     print_call("unpack", "nothing lent", cavzemil_unpack(WIDE, 0, NULL, 0, NULL, 0));
     printf("\n");
     show_charge("nothing lent", prices, NULL, 0);
+    show_cellular("nothing lent", screen, CAVZEMIL_KUEPPERS, NULL, 0);
 }
 
 /* Prints the number of the rules, the constants, and what each screen and the rest of the calls answer. */
 int main(void) {
+    fill_records();
     printf("rules %" PRIu32 "\n", cavzemil_rules());
     show_constants();
     show_screen("served", screen);
@@ -304,6 +359,7 @@ int main(void) {
         show_separation(refused[at].call, refused[at].s, CAVZEMIL_DEMICHEL);
     }
     show_limits();
+    show_sets();
     show_plates();
     show_charges();
     show_charge_limits();

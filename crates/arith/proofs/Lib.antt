@@ -12,3 +12,5 @@ pub mod EveryLaws
 pub mod RoundingLaws
 pub mod StepLaws
 pub mod TallyLaws
+pub mod OrderLaws
+pub mod BinaryLaws

@@ -3,13 +3,14 @@
 use Prim.Native.Nat.{ℕ, zero, suc, _+_, _-_, _*_, _/_, _%_, _≤_, _<_}
 use mathlib.Core.Path.{_≡_, refl, sym, ap, ap₂, _∙_}
 use mathlib.Core.Logic.{_⊎_, inl, inr, _≢_}
+use mathlib.Core.Bool.{cond}
 use native.Mathlib.Nat.{le-refl, le-step, le-of-suc-le-suc, not-suc-le-zero, eq-or-lt-of-le, ne-of-lt, add-zero, add-suc, sub-add-cancel, add-sub-of-le, zero-mul, mul-zero, mul-one, suc-mul}
 use native.Mathlib.Numerals.{add-one}
 use native.Mathlib.Decide.{ℕ-discrete, decLt}
 use native.Mathlib.Omega.{arith}
-use lib.Dec.{eqb, ltb}
+use lib.Dec.{eqb, leb, ltb}
 use lib.Arith.{digits-div, digits-mod}
-use borrow.Author.Tests.{eq-eqb, ne-eqb, lt-ltb, le-ltb}
+use borrow.Author.Tests.{eq-eqb, ne-eqb, lt-ltb, le-ltb, le-leb, lt-leb}
 use Rattle.arith.specs.Sum.{sumBelow, indicator}
 
 -- ---- the indicator of an equation
@@ -154,6 +155,17 @@ pub sum-below : (n u : ℕ) → u ≤ n → sumBelow n (λ q. indicator (ltb q u
 sum-below n u h =
     sum-ones n u (λ q. indicator (ltb q u)) h (λ q l. ap indicator (lt-ltb q u l)) (λ q l. ap indicator (le-ltb (u + q) u (omega arith)))
 
+-- the first k terms of a sum, as a sum in which the others are 0
+pub sum-front : (n k : ℕ) (f : ℕ → ℕ) → k ≤ n → sumBelow n (λ i. cond (ltb i k) (f i) 0) ≡ sumBelow k f
+sum-front n k f h =
+    ap (λ (m : ℕ). sumBelow m (λ i. cond (ltb i k) (f i) 0)) (sym (add-sub-of-le h))
+    ∙ sum-split k (n - k) (λ i. cond (ltb i k) (f i) 0)
+    ∙ omega (
+      arith,
+      sum-same k (λ i. cond (ltb i k) (f i) 0) f (λ i l. rw (lt-ltb i k l)),
+      sum-constant (n - k) 0 (λ i. cond (ltb (k + i) k) (f (k + i)) 0) (λ i l. rw (le-ltb (k + i) k (omega arith))),
+    )
+
 -- a number below n is met once among the numbers below n
 pub sum-met : (n v : ℕ) → v < n → sumBelow n (λ t. indicator (eqb v t)) ≡ 1
 unfolding sumBelow
@@ -164,6 +176,20 @@ sum-met (suc n) v h = go (sum-met n v) (eq-or-lt-of-le (le-of-suc-le-suc h))
     go ih (inl e) =
         omega (arith, sum-constant n 0 (λ t. indicator (eqb v t)) (λ t l. indicator-none {a = v} {b = t} (λ q. omega arith)), indicator-one e)
     go ih (inr l) = omega (arith, ih l, indicator-none (ne-of-lt l))
+
+-- terms that are no larger, and one that is smaller, add up to less
+pub sum-less : (n : ℕ) (f g : ℕ → ℕ) (k : ℕ) → k < n → ((i : ℕ) → i < n → f i ≤ g i) → f k < g k → sumBelow n f < sumBelow n g
+sum-less n f g k l least less =
+    omega (
+      arith,
+      sum-plus n f (λ i. indicator (eqb k i)),
+      sum-met n k l,
+      sum-le n (λ i. f i + indicator (eqb k i)) g (λ i m. go i (least i m) (ℕ-discrete k i)),
+    )
+  where
+    go : (i : ℕ) → f i ≤ g i → Dec (k ≡ i) → f i + indicator (eqb k i) ≤ g i
+    go i h (yes e) = omega (arith, indicator-one e, ap f e, ap g e)
+    go i h (no e) = omega (arith, indicator-none e)
 
 -- a map that takes no value twice takes t at most once
 sum-once : (n : ℕ) (h : ℕ → ℕ) (t : ℕ) → ((i j : ℕ) → i < n → j < n → h i ≡ h j → i ≡ j) → sumBelow n (λ i. indicator (eqb (h i) t)) ≤ 1
@@ -201,16 +227,16 @@ each-once n h low apart =
     (sum-exchange n n (λ t i. indicator (eqb (h i) t)) ∙ sum-constant n 1 _ (λ i l. sum-met n (h i) (low i l)) ∙ omega arith)
 
 -- A SUM ALONG a map that meets each number below k once is the sum over the numbers below k
-pub sum-along : (n k : ℕ) (h g : ℕ → ℕ) → ((i : ℕ) → h i < k) → ((t : ℕ) → t < k → sumBelow n (λ i. indicator (eqb (h i) t)) ≡ 1)
+pub sum-along : (n k : ℕ) (h g : ℕ → ℕ) → ((i : ℕ) → i < n → h i < k) → ((t : ℕ) → t < k → sumBelow n (λ i. indicator (eqb (h i) t)) ≡ 1)
     → sumBelow n (λ i. g (h i)) ≡ sumBelow k g
 sum-along n k h g low once =
-    sum-same n _ _ (λ i l. sym (spread i))
+    sum-same n _ _ (λ i l. sym (spread i l))
     ∙ sum-exchange n k (λ i t. g t * indicator (eqb (h i) t))
     ∙ sum-same k _ g (λ t l. sum-scaled n (g t) (λ i. indicator (eqb (h i) t)) ∙ ap (λ (c : ℕ). g t * c) (once t l) ∙ mul-one (g t))
   where
-    spread : (i : ℕ) → sumBelow k (λ t. g t * indicator (eqb (h i) t)) ≡ g (h i)
-    spread i =
-        sum-single k (h i) (λ t. g t * indicator (eqb (h i) t)) (low i)
+    spread : (i : ℕ) → i < n → sumBelow k (λ t. g t * indicator (eqb (h i) t)) ≡ g (h i)
+    spread i m =
+        sum-single k (h i) (λ t. g t * indicator (eqb (h i) t)) (low i m)
         (λ t l f. ap (λ (c : ℕ). g t * c) (indicator-none (λ e. f (sym e))) ∙ mul-zero (g t))
         ∙ ap (λ (c : ℕ). g (h i) * c) (indicator-one {a = h i} refl)
         ∙ mul-one (g (h i))
@@ -226,3 +252,31 @@ sum-alone n f h l e k m apart = go (decLt k h)
     go : Dec (k < h) → f k ≡ 0
     go (yes below) = omega (arith, two h k l below)
     go (no above) = omega (arith, two k h m (omega arith))
+
+-- ---- the steps of values that fall
+
+module _ (F : ℕ → ℕ) (falls : (k : ℕ) → F (suc k) ≤ F k) where
+  -- the steps from p on add up to what the values fall from there
+  pub steps-from : (p m : ℕ) → p ≤ m → sumBelow m (λ k. cond (leb p k) (F k - F (suc k)) 0) + F m ≡ F p
+  unfolding sumBelow
+  steps-from p zero h =
+      let first : 0 ≡ p = omega arith in
+      omega (arith, ap F first)
+  steps-from p (suc m) h = go (eq-or-lt-of-le h) (steps-from p m)
+    where
+      go : (p ≡ suc m) ⊎ (p < suc m) → (p ≤ m → sumBelow m (λ k. cond (leb p k) (F k - F (suc k)) 0) + F m ≡ F p)
+          → sumBelow m (λ k. cond (leb p k) (F k - F (suc k)) 0) + cond (leb p m) (F m - F (suc m)) 0 + F (suc m) ≡ F p
+      go (inl e) ih =
+          rw (lt-leb p m (omega arith))
+          (omega (arith, sum-constant m 0 (λ k. cond (leb p k) (F k - F (suc k)) 0) (λ k l. rw (lt-leb p k (omega arith))), ap F e))
+      go (inr l) ih = rw (le-leb p m (le-of-suc-le-suc l)) (omega (arith, ih (le-of-suc-le-suc l), falls m))
+
+  -- each counted with its place, from 1, they add up to the values
+  pub steps-counted : (m : ℕ) → sumBelow m (λ k. suc k * (F k - F (suc k))) + m * F m ≡ sumBelow m F
+  unfolding sumBelow
+  steps-counted zero = omega arith
+  steps-counted (suc m) =
+      go (F m) (F (suc m)) (F m - F (suc m)) (sumBelow m (λ k. suc k * (F k - F (suc k)))) (sumBelow m F) (omega (arith, falls m)) (steps-counted m)
+    where
+      go : (a b d s t : ℕ) → a ≡ b + d → s + m * a ≡ t → s + suc m * d + suc m * b ≡ t + a
+      go a b d s t e h = omega (arith, ap (λ (x : ℕ). m * x) e)

@@ -3,6 +3,7 @@ pub mod Remainder
 pub mod Sum
 pub mod First
 pub mod Every
+pub mod Order
 pub mod Run
 pub mod Refusal
 pub mod Tally

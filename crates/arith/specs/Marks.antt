@@ -1,11 +1,19 @@
 -- Small numbers, and what two laws say of them. proofs/AllMarks.antt shows them by computing the definitions.
 -- Assumes nothing: these are statements.
-use Prim.Native.Nat.{_+_, _%_, _<_, _∣_}
+use Prim.Native.Nat.{ℕ, _+_, _%_, _≤_, _<_, _∣_}
 use mathlib.Core.Path.{_≡_}
+use mathlib.Core.List.{[], _∷_}
+use lib.ListN.{getD}
 use Rattle.arith.specs.Gcd.{gcdOf}
+use Rattle.arith.specs.Order.{ordered}
 use Rattle.arith.specs.Remainder.{remainderOf}
 use Rattle.arith.specs.Rules.{rulesInForce}
-use Rattle.arith.specs.Laws.{GcdCommon, RemainderWords}
+use Rattle.arith.specs.Run.{upto}
+use Rattle.arith.specs.Laws.{GcdCommon, RemainderWords, OrderFalls}
+
+-- the counts of rule 12.3
+abbrev pub counted : ℕ → ℕ
+counted j = getD (26 ∷ 26 ∷ 0 ∷ 27 ∷ 0 ∷ 0 ∷ 0 ∷ 26 ∷ []) j 0
 
 pub record Marks : Type 0 where
   pub gcd-6 : gcdOf 12 18 ≡ 6
@@ -13,5 +21,10 @@ pub record Marks : Type 0 where
   -- 0 − 7 by 105
   pub remainder-98 : remainderOf 0 7 105 ≡ 98
   pub words : RemainderWords → (98 < 105) × ((98 + 7) % 105 ≡ 0)
-  -- rule 14.1: the ink bill
-  pub in-force : rulesInForce ≡ 1
+  -- rule 12.16, the order: 27 goes before the three of 26, and these go by their numbers, as the four of 0 do
+  pub in-order : upto (ordered 8 counted) 8 ≡ 3 ∷ 0 ∷ 1 ∷ 7 ∷ 2 ∷ 4 ∷ 5 ∷ 6 ∷ []
+  -- what the law of the order says of its second and its third
+  pub falls-law : OrderFalls → 26 ≤ 26
+  pub ties-law : OrderFalls → 0 < 1
+  -- rule 14.1: the ink bill, and cellular prediction
+  pub in-force : rulesInForce ≡ 2

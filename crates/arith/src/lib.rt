@@ -18,5 +18,5 @@ pub fn gcd(a: u32, b: u32) -> u32
 pub fn rules_in_force() -> u32
     ensures { λ r. ⌜ r ≡ rulesInForce ⌝ }
 {
-    1
+    2
 }

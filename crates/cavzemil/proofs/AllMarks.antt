@@ -1,10 +1,11 @@
 -- The marks, shown by computing the definitions.
 -- Assumes nothing.
 use mathlib.Core.Path.{refl}
-use lib.Ieee.{le}
+use lib.Ieee.{add, mul, div, le, ofInt, ofBits}
 use Rattle.arith.specs.Every.{every}
 use Rattle.arith.specs.First.{firstBelow}
 use Rattle.arith.specs.Gcd.{gcdOf}
+use Rattle.arith.specs.Order.{ahead, placeAmong, ordered}
 use Rattle.arith.specs.Remainder.{remainderOf}
 use Rattle.arith.specs.Run.{upto, zeros}
 use Rattle.arith.specs.Sheet.{onSheet}
@@ -18,16 +19,20 @@ use Rattle.quantiser.specs.Running.{weightUpTo, level, running, count}
 use Rattle.quantiser.specs.Subscreens.{subscreenSize, subscreenStart, subscreenOf, distanceOf, fillUpTo, colorantAt, colorantOf}
 use Rattle.render.specs.Windows.{cellOf, windowCell, windowCells, talliesOf}
 use Rattle.render.specs.Answers.{windowRefusal, dueIn, brickRefusal, answerOf}
-use Rattle.predict.specs.Predicted.{firstBad}
+use Rattle.predict.specs.Predicted.{firstBad, total, channel}
 use Rattle.predict.specs.Numbered.{predictRefusal, ruled}
+use Rattle.predict.specs.Cellular.{fallingCount, weightAt, setAlong, firstBadSet, runRefusal, cellularRefusal}
+use Rattle.predict.specs.Cellular as Cells
+use Rattle.predict.specs.Marks.{records}
 use Rattle.bill.specs.Charges.{added, pricesAdmitted, cellsIn, windowsAdmitted, chargeRefusal, costOf, charged}
 use Rattle.cavzemil.specs.Separations.{known, separationOf}
 use Rattle.cavzemil.specs.Windows.{cellGiven, renderingGiven, outputGiven}
 use Rattle.cavzemil.specs.Colours.{countsGiven, primariesIn, valuesRefusal, predictionGiven}
+use Rattle.cavzemil.specs.Cellular.{cellularAnswer}
 use Rattle.cavzemil.specs.Marks.{Marks}
 
 pub marks : Marks
-unfolding le every firstBelow gcdOf remainderOf upto zeros sumBelow tally slopeAdmitted cellsAdmitted subscreensAdmitted offsetAdmitted refusalOf onSheet phaseOf placeRefusal placeOf shiftOf brickOf weight scaleOf weightUpTo level running count subscreenSize subscreenStart subscreenOf distanceOf fillUpTo colorantAt colorantOf cellOf windowCell windowCells talliesOf windowRefusal dueIn brickRefusal answerOf firstBad predictRefusal ruled added pricesAdmitted cellsIn windowsAdmitted chargeRefusal costOf charged known separationOf cellGiven renderingGiven outputGiven countsGiven primariesIn valuesRefusal predictionGiven
+unfolding le every firstBelow gcdOf remainderOf upto zeros sumBelow tally slopeAdmitted cellsAdmitted subscreensAdmitted offsetAdmitted refusalOf onSheet phaseOf placeRefusal placeOf shiftOf brickOf weight scaleOf weightUpTo level running count subscreenSize subscreenStart subscreenOf distanceOf fillUpTo colorantAt colorantOf cellOf windowCell windowCells talliesOf windowRefusal dueIn brickRefusal answerOf firstBad predictRefusal ruled added pricesAdmitted cellsIn windowsAdmitted chargeRefusal costOf charged known separationOf cellGiven renderingGiven outputGiven countsGiven primariesIn valuesRefusal predictionGiven add mul div ofInt ofBits ahead placeAmong ordered total channel fallingCount weightAt setAlong firstBadSet runRefusal cellularRefusal Cells.ruled records cellularAnswer
 marks =
     record {
       placed = refl;
@@ -51,6 +56,10 @@ marks =
       short-colour = refl;
       sloped-colour = refl;
       bad-colour = refl;
+      unknown-cellular = refl;
+      short-cellular = refl;
+      bad-cellular = refl;
+      cellular-colour = refl;
       billed = refl;
       unbilled = refl;
       unknown-billed = refl;

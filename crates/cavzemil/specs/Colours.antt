@@ -1,11 +1,11 @@
 -- What the calls on colours answer, and the primaries as they are passed.
 -- Assumes nothing: these are definitions.
-use Prim.Native.Nat.{ℕ, _+_, _*_}
+use Prim.Native.Nat.{ℕ}
 use mathlib.Core.Bool.{cond}
 use mathlib.Core.List.{List, [], _∷_}
 use lib.Dec.{eqb}
-use lib.Ieee.{Float, nan}
-use lib.ListN.{length, getD}
+use lib.Ieee.{Float}
+use lib.ListN.{length}
 use Rattle.arith.specs.Run.{upto}
 use Rattle.arith.specs.Refusal.{unless, orElse, answered}
 use Rattle.screen.specs.declared.Screen as Screens
@@ -14,7 +14,7 @@ use Rattle.separation.specs.declared.Separation.{Separation}
 use Rattle.separation.specs.declared.Inks.{Inks}
 use Rattle.quantiser.specs.Running.{count}
 use Rattle.predict.specs.declared.Xyz.{Xyz}
-use Rattle.predict.specs.Predicted.{plusZero}
+use Rattle.predict.specs.Predicted.{plusZero, tripleAt}
 use Rattle.predict.specs.Numbered.{Numbered, ruled}
 use Rattle.cavzemil.specs.declared.screens.Screen.{Screen}
 use Rattle.cavzemil.specs.declared.colours.Counts.{Counts}
@@ -33,20 +33,17 @@ countsAnswer s separation inks = countsGiven (refusedFor separation (refusalOf (
 
 -- ---- `cavzemil_predict`
 
--- rule 14.4: the values of colorant j. The NaNs stand for values that no call has.
-abbrev pub primaryIn : List Float → ℕ → Xyz
-primaryIn values j = record { x = getD values (3 * j) nan; y = getD values (3 * j + 1) nan; z = getD values (3 * j + 2) nan }
-
+-- rule 14.4: the primaries of a run of values
 unfoldable pub primariesIn : List Float → List Xyz
 primariesIn values =
-    primaryIn values 0
-    ∷ primaryIn values 1
-    ∷ primaryIn values 2
-    ∷ primaryIn values 3
-    ∷ primaryIn values 4
-    ∷ primaryIn values 5
-    ∷ primaryIn values 6
-    ∷ primaryIn values 7
+    tripleAt values 0
+    ∷ tripleAt values 1
+    ∷ tripleAt values 2
+    ∷ tripleAt values 3
+    ∷ tripleAt values 4
+    ∷ tripleAt values 5
+    ∷ tripleAt values 6
+    ∷ tripleAt values 7
     ∷ []
 
 -- rule 14.4, what is refused before the primaries are read: 1 to 4, then 6 for another length
@@ -55,7 +52,7 @@ valuesRefusal s values = orElse (refusalOf s) (unless (eqb (length values) 24) 6
 
 -- an answer in numbers, field by field
 abbrev pub numberedLaid : Numbered → Prediction
-numberedLaid p = record { refusal = p .refusal; colorant = p .colorant; x = p .x; y = p .y; z = p .z }
+numberedLaid p = record { refusal = p .refusal; colorant = p .carried; x = p .x; y = p .y; z = p .z }
 
 -- a refusal, and the colorant that it carries, with no colour
 abbrev pub colourless : ℕ → ℕ → Prediction

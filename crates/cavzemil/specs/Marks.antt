@@ -2,14 +2,16 @@
 -- Assumes nothing: these are statements.
 use mathlib.Core.Path.{_≡_}
 use mathlib.Core.List.{List, [], _∷_}
-use lib.Ieee.{Float, nan}
+use lib.Ieee.{Float, nan, binary64, ofBits}
 use Rattle.arith.specs.Run.{zeros}
 use Rattle.screen.specs.Marks as Screens
 use Rattle.screen.specs.Phase.{placeOf}
 use Rattle.screen.specs.Brick.{brickOf}
 use Rattle.separation.specs.declared.Separation.the-variants.{Demichel, Kueppers}
+use Rattle.separation.specs.Weights.{inksOf}
 use Rattle.separation.specs.Marks.{half}
-use Rattle.predict.specs.Predicted.{plusZero}
+use Rattle.predict.specs.Predicted.{plusZero, limit}
+use Rattle.predict.specs.Marks.{sets, cyanUnset, shorter}
 use Rattle.bill.specs.Charges.{charged}
 use Rattle.bill.specs.Marks.{flat, tint}
 use Rattle.cavzemil.specs.declared.screens.Screen.{Screen}
@@ -18,6 +20,7 @@ use Rattle.cavzemil.specs.Separations.{separationOf}
 use Rattle.cavzemil.specs.Screens.{screenOf, screenLaid, placeLaid, brickLaid}
 use Rattle.cavzemil.specs.Windows.{unrendered, cellAnswer, renderAnswer, renderOutput, brickAnswer, brickOutput}
 use Rattle.cavzemil.specs.Colours.{countsAnswer, colourless, predictAnswer}
+use Rattle.cavzemil.specs.Cellular.{uncoloured, cellularAnswer}
 use Rattle.cavzemil.specs.Bills.{chargeLaid}
 
 -- rule 12.8's screen, one whose slope is not in lowest terms, and one of a single cell, whose brick is the phase 0
@@ -66,6 +69,11 @@ pub record Marks : Type 0 where
   pub short-colour : predictAnswer listed 1 half [] ≡ colourless 6 0
   pub sloped-colour : predictAnswer sloped 1 half [] ≡ colourless 1 0
   pub bad-colour : predictAnswer listed 1 half magentaUnset ≡ colourless 11 1
+  -- rule 16.8: 100 and 14 with others beside them, 11 with its set; and rule 12.17's colour
+  pub unknown-cellular : cellularAnswer sloped 2 half shorter ≡ uncoloured 100 0
+  pub short-cellular : cellularAnswer listed 0 half shorter ≡ uncoloured 14 0
+  pub bad-cellular : cellularAnswer listed 0 half cyanUnset ≡ uncoloured 11 1
+  pub cellular-colour : cellularAnswer listed 0 (inksOf 200 90 140) sets ≡ record { refusal = 0; set = 0; x = ofBits binary64 0x3fc49a166e33b007; y = plusZero; z = limit }
   -- rule 12.15's bill, and no window
   pub billed : chargeLaid (charged (flat 1000000) tint) ≡ record { refusal = 0; cents = 105 }
   pub unbilled : chargeLaid (charged (flat 1000000) []) ≡ record { refusal = 13; cents = 0 }

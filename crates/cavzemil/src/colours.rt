@@ -2,9 +2,10 @@
 ghost use mathlib.Core.Path.{_≡_};
 ghost use Prim.Native.Nat.{_<_};
 ghost use lib.ListN.{length};
+ghost use Rattle.predict.specs.Predicted.{tripleAt};
 ghost use Rattle.predict.specs.Numbered.{numberedOf};
 ghost use Rattle.separation.specs.Weights.{inksOf};
-ghost use Rattle.cavzemil.specs.Colours.{countsAnswer, primaryIn, primariesIn, numberedLaid, colourless, predictAnswer};
+ghost use Rattle.cavzemil.specs.Colours.{countsAnswer, primariesIn, numberedLaid, colourless, predictAnswer};
 use crate::screens::Screen;
 use crate::screens::screen_of;
 use crate::separations::UNKNOWN;
@@ -99,7 +100,7 @@ fn primaries_in(values: &[f64]) -> [Xyz; 8]
 // The primary of colorant j.
 fn primary_in(values: &[f64], j: usize) -> Xyz
     requires { ⌜ (length (now values) ≡ 24) × (j < 8) ⌝ }
-    ensures { λ r. ⌜ r ≡ primaryIn (now (values .entry)) j ⌝ }
+    ensures { λ r. ⌜ r ≡ tripleAt (now (values .entry)) j ⌝ }
 {
     let at = 3 * j;
     Xyz {

@@ -1,6 +1,7 @@
 // The C interface of the library (rules 14.1 to 14.4): its calls under C names, with structs that C lays
 // out as it does its own, and slices as a pointer and then a length.
 mod bills;
+mod cellular;
 mod colours;
 mod planes;
 mod rules;
@@ -11,6 +12,8 @@ mod windows;
 pub use bills::Charge;
 pub use bills::Prices;
 pub use bills::cavzemil_charge_of;
+pub use cellular::Cellular;
+pub use cellular::cavzemil_predict_cellular;
 pub use colours::Counts;
 pub use colours::Prediction;
 pub use colours::cavzemil_counts_of;

@@ -14,7 +14,6 @@ use Rattle.arith.specs.Run.{upto}
 use Rattle.arith.proofs.FirstLaws as First
 use Rattle.arith.proofs.RefusalLaws.{unless-none}
 use Rattle.arith.proofs.RunLaws.{upto-length, upto-at}
-use Rattle.arith.proofs.SumLaws.{sum-fewer}
 use Rattle.screen.specs.declared.Screen.{Screen}
 use Rattle.screen.specs.Screens.{refusalOf, Admitted, slopeAdmitted, cellsAdmitted, subscreensAdmitted, offsetAdmitted}
 use Rattle.screen.proofs.Published.{admitted-words}
@@ -22,7 +21,7 @@ use Rattle.separation.specs.declared.Separation.{Separation}
 use Rattle.separation.specs.declared.Inks.{Inks}
 use Rattle.separation.specs.Laws.{InkValues}
 use Rattle.quantiser.specs.Running.{count}
-use Rattle.quantiser.proofs.Published.{counts-add-up}
+use Rattle.quantiser.proofs.Published.{count-within}
 use Rattle.counts_text.specs.Text.{tab, split, prepend, lines, lineAt, fields}
 use Rattle.counts_text.specs.Numbers.{numeral}
 use Rattle.counts_text.specs.Lines.{letterC, isScreen, screenIn, screenRefusal, isPatch, separationIn, inksIn, patchRefusal, lineOf, countsLine, errorLine}
@@ -49,12 +48,6 @@ error-limit number refusal n r = line-limit _ (number ∷ refusal ∷ []) each
     each (suc zero) l = r
     each (suc (suc i)) l = absurd (omega arith)
 
--- a count is at most N
-count-limit : (s : Screen) → Admitted s → (sep : Separation) (inks : Inks) → InkValues inks → (j : ℕ) → j < 8 → count s sep inks j ≤ 4096
-unfolding sumBelow
-count-limit s ok sep inks v j l =
-    omega (arith, sum-fewer (suc j) 8 (count s sep inks) l, counts-add-up s ok sep inks v, admitted-words s .0 ok .cells-limit)
-
 -- ink values of a P line are at most 255
 ink-values : (line : List ℕ) → isPatch line ≡ true → InkValues (inksIn line)
 unfolding inksIn
@@ -71,7 +64,7 @@ counts-limit s ok line e =
       arith,
       eight,
       line-limit letterC (upto counts 8)
-          (λ i l. rw (upto-at counts 8 i (omega (arith, eight, l))) (omega (arith, count-limit s ok (separationIn line) (inksIn line) (ink-values line e) i (omega (arith, eight, l))))),
+          (λ i l. rw (upto-at counts 8 i (omega (arith, eight, l))) (omega (arith, count-within s ok (separationIn line) (inksIn line) (ink-values line e) i (omega (arith, eight, l)), admitted-words s .0 ok .cells-limit))),
     )
 
 -- ---- a good text

@@ -3,3 +3,5 @@ pub mod AllMarks
 mod Steps
 mod Exact
 mod WholeLaws
+mod CellularLaws
+mod CellularSteps

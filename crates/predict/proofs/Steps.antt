@@ -23,44 +23,44 @@ use Rattle.quantiser.proofs.Published.{counts-answered}
 use Rattle.predict.specs.declared.Xyz.{Xyz}
 use Rattle.predict.specs.declared.Prediction.{Prediction}
 use Rattle.predict.specs.declared.Prediction.the-variants.{BadPrimary, BadScreen}
-use Rattle.predict.specs.Predicted.{primary, admitted, firstBad, more, total, totals, channel, meanOf, predicted}
+use Rattle.predict.specs.Predicted.{primary, admitted, firstBad, more, total, totals, channel, meanOf, colourOf, predicted}
 use Rattle.predict.specs.Numbered.{numberedOf, predictRefusal, ruled}
 use Rattle.predict.specs.Laws.{AllAdmitted}
 
 -- ---- sums
 
--- one colorant more
+-- one product more
 total-next : (i : ℕ) (c : ℕ → ℕ) (v : ℕ → Float) → total (i + 1) c v ≡ more (total i c v) (c i) (v i)
 unfolding total
 total-next i c v = ap (λ (k : ℕ). total k c v) (add-one i)
 
-pub totals-next : (i : ℕ) (c : ℕ → ℕ) (ps : List Xyz)
+pub totals-next : (i : ℕ) (c : ℕ → ℕ) (p : ℕ → Xyz)
     → _≡_ {A = Xyz}
-    (record {
-      x = more (totals i c ps .x) (c i) (primary ps i .x);
-      y = more (totals i c ps .y) (c i) (primary ps i .y);
-      z = more (totals i c ps .z) (c i) (primary ps i .z);
-    })
-    (totals (i + 1) c ps)
-totals-next i c ps = rw (total-next i c (λ j. primary ps j .x), total-next i c (λ j. primary ps j .y), total-next i c (λ j. primary ps j .z))
+    (record { x = more (totals i c p .x) (c i) (p i .x); y = more (totals i c p .y) (c i) (p i .y); z = more (totals i c p .z) (c i) (p i .z) })
+    (totals (i + 1) c p)
+totals-next i c p = rw (total-next i c (λ j. p j .x), total-next i c (λ j. p j .y), total-next i c (λ j. p j .z))
 
 -- the division comes after the sum
 pub channel-is : (c : ℕ → ℕ) (n : ℕ) (v : ℕ → Float) → channel c n v ≡ div binary64 (total 8 c v) (ofInt binary64 (pos n))
 unfolding channel
 channel-is c n v = refl
 
--- counts that agree give the same sum
-total-same : (k : ℕ) (c d : ℕ → ℕ) (v : ℕ → Float) → ((j : ℕ) → j < k → c j ≡ d j) → total k c v ≡ total k d v
+-- counts and values that agree give the same sum
+total-same : (k : ℕ) (c d : ℕ → ℕ) (v w : ℕ → Float) → ((j : ℕ) → j < k → c j ≡ d j) → ((j : ℕ) → j < k → v j ≡ w j) → total k c v ≡ total k d w
 unfolding total
-total-same zero c d v e = refl
-total-same (suc k) c d v e = rw (total-same k c d v (λ j l. e j (omega arith)), e k (omega arith))
+total-same zero c d v w e q = refl
+total-same (suc k) c d v w e q = rw (total-same k c d v w (λ j l. e j (omega arith)) (λ j l. q j (omega arith)), e k (omega arith), q k (omega arith))
 
-channel-same : (c d : ℕ → ℕ) (n : ℕ) (v : ℕ → Float) → ((j : ℕ) → j < 8 → c j ≡ d j) → channel c n v ≡ channel d n v
-channel-same c d n v e = channel-is c n v ∙ rw (total-same 8 c d v e) (sym (channel-is d n v))
+channel-same : (c d : ℕ → ℕ) (n : ℕ) (v w : ℕ → Float) → ((j : ℕ) → j < 8 → c j ≡ d j) → ((j : ℕ) → j < 8 → v j ≡ w j) → channel c n v ≡ channel d n w
+channel-same c d n v w e q = channel-is c n v ∙ rw (total-same 8 c d v w e q) (sym (channel-is d n w))
 
-mean-same : (c d : ℕ → ℕ) (n : ℕ) (ps : List Xyz) → ((j : ℕ) → j < 8 → c j ≡ d j) → meanOf c n ps ≡ meanOf d n ps
-mean-same c d n ps e =
-    rw (channel-same c d n (λ j. primary ps j .x) e, channel-same c d n (λ j. primary ps j .y) e, channel-same c d n (λ j. primary ps j .z) e)
+pub mean-same : (c d : ℕ → ℕ) (n : ℕ) (p q : ℕ → Xyz) → ((j : ℕ) → j < 8 → c j ≡ d j) → ((j : ℕ) → j < 8 → p j ≡ q j) → meanOf c n p ≡ meanOf d n q
+mean-same c d n p q e f =
+    rw (
+      channel-same c d n (λ j. p j .x) (λ j. q j .x) e (λ j l. ap (λ (r : Xyz). r .x) (f j l)),
+      channel-same c d n (λ j. p j .y) (λ j. q j .y) e (λ j l. ap (λ (r : Xyz). r .y) (f j l)),
+      channel-same c d n (λ j. p j .z) (λ j. q j .z) e (λ j l. ap (λ (r : Xyz). r .z) (f j l)),
+    )
 
 -- ---- the first bad colorant
 
@@ -71,6 +71,18 @@ bad ps j = not (admitted (primary ps j))
 pub bad-none : (ps : List Xyz) → AllAdmitted ps → firstBad ps ≡ 8
 unfolding firstBad
 bad-none ps good = first-none 8 (bad ps) (λ j l. ap not (good j l))
+
+-- ---- the counts that `quantiser` answers
+
+module _ (s : Screen) (sep : Separation) (inks : Inks) (counts : Counts) (e : counts ≡ countsOf s sep inks) where
+  pub counts-refusal : counts .refusal ≡ refusalOf s
+  counts-refusal = ap (λ (k : Counts). k .refusal) e ∙ counts-answered s sep inks .0
+
+  pub counts-admitted : counts .refusal ≡ 0 → Admitted s
+  counts-admitted h = sym counts-refusal ∙ h
+
+  pub counts-are : Admitted s → (j : ℕ) → j < 8 → getD (counts .of) j 0 ≡ count s sep inks j
+  counts-are ok j l = rw (e, counts-answered s sep inks .1 ok) (upto-at (count s sep inks) 8 j l)
 
 -- ---- the answer
 
@@ -83,7 +95,7 @@ module _ (s : Screen) (sep : Separation) (inks : Inks) (ps : List Xyz) where
   unfolding predicted
   predicted-primary ok l = rw (eq-eqb (refusalOf s) 0 ok, lt-ltb (firstBad ps) 8 l)
 
-  pub predicted-mean : Admitted s → 8 ≤ firstBad ps → predicted s sep inks ps ≡ meanOf (count s sep inks) (s .n) ps
+  pub predicted-mean : Admitted s → 8 ≤ firstBad ps → predicted s sep inks ps ≡ colourOf (meanOf (count s sep inks) (s .n) (primary ps))
   unfolding predicted
   predicted-mean ok l = rw (eq-eqb (refusalOf s) 0 ok, le-ltb (firstBad ps) 8 l)
 
@@ -104,19 +116,16 @@ module _ (s : Screen) (sep : Separation) (inks : Inks) (ps : List Xyz) where
   -- from the counts that `quantiser` answers
   pub screen-refused : (counts : Counts) → counts ≡ countsOf s sep inks → (counts .refusal ≡ 0 → ⊥) → BadScreen (counts .refusal) ≡ predicted s sep inks ps
   screen-refused counts e h =
-      let r : counts .refusal ≡ refusalOf s = ap (λ (k : Counts). k .refusal) e ∙ counts-answered s sep inks .0 in
+      let r = counts-refusal s sep inks counts e in
       ap BadScreen r ∙ sym (predicted-screen (λ z. h (r ∙ z)))
-
-  counts-admitted : (counts : Counts) → counts ≡ countsOf s sep inks → counts .refusal ≡ 0 → Admitted s
-  counts-admitted counts e h = sym (counts-answered s sep inks .0) ∙ sym (ap (λ (k : Counts). k .refusal) e) ∙ h
 
   pub primary-refused : (counts : Counts) → counts ≡ countsOf s sep inks → counts .refusal ≡ 0
       → (bad : ℕ) → bad ≡ firstBad ps → bad < 8 → BadPrimary bad ≡ predicted s sep inks ps
-  primary-refused counts e h bad f l = ap BadPrimary f ∙ sym (predicted-primary (counts-admitted counts e h) (omega arith))
+  primary-refused counts e h bad f l = ap BadPrimary f ∙ sym (predicted-primary (counts-admitted s sep inks counts e h) (omega arith))
 
   pub colour-answered : (counts : Counts) → counts ≡ countsOf s sep inks → counts .refusal ≡ 0
-      → (bad : ℕ) → bad ≡ firstBad ps → 8 ≤ bad → meanOf (λ j. getD (counts .of) j 0) (s .n) ps ≡ predicted s sep inks ps
-  colour-answered counts e h bad f l =
-      let ok = counts-admitted counts e h in
-      mean-same (λ j. getD (counts .of) j 0) (count s sep inks) (s .n) ps (λ j m. rw (e, counts-answered s sep inks .1 ok) (upto-at (count s sep inks) 8 j m))
+      → (bad : ℕ) → bad ≡ firstBad ps → 8 ≤ bad → (colour : Xyz) → colour ≡ meanOf (λ j. getD (counts .of) j 0) (s .n) (primary ps) → colourOf colour ≡ predicted s sep inks ps
+  colour-answered counts e h bad f l colour mean =
+      let ok = counts-admitted s sep inks counts e h in
+      ap colourOf (mean ∙ mean-same _ (count s sep inks) (s .n) _ _ (counts-are s sep inks counts e ok) (λ j m. refl))
       ∙ sym (predicted-mean ok (omega arith))

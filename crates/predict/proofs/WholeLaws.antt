@@ -15,7 +15,7 @@ use lib.Ieee.Exact.{HasValue}
 use lib.Ieee.Scale.{finite}
 use lib.Ieee.Back.{whole-unique}
 use Rattle.predict.specs.declared.Xyz.{Xyz}
-use Rattle.predict.specs.Predicted.{plusZero, within, admitted, more, total, channel}
+use Rattle.predict.specs.Predicted.{plusZero, within, admitted, more, total, channel, meanOf}
 use Rattle.predict.specs.Laws.{valueOf, IsWhole, WholeItself}
 use Rattle.predict.proofs.Steps.{channel-is}
 use Rattle.predict.proofs.Exact.{Num, int-val, mul-num, mul-cold, add-num, div-num}
@@ -35,7 +35,7 @@ three true true c e = (tt, tt, subst T (sym e) tt)
 three true false c e = absurd (true≢false (sym e))
 three false b c e = absurd (true≢false (sym e))
 
-pub admitted-values : (p : Xyz) → admitted p ≡ true → T (within (p .x)) × T (within (p .y)) × T (within (p .z))
+admitted-values : (p : Xyz) → admitted p ≡ true → T (within (p .x)) × T (within (p .y)) × T (within (p .z))
 admitted-values p e = three (within (p .x)) (within (p .y)) (within (p .z)) e
 
 -- a value that equals v is +v, or -0 where v is 0
@@ -88,7 +88,7 @@ start = refl
 room : (n v : ℕ) → n ≤ 4096 → v ≤ 200 → n * v ≤ 2 ^ 53
 room n v a b = le-trans (mul-le-mul a b) (lit≤ tt)
 
--- colorant h has all n cells, and its value is the whole number w
+-- record h has all n cells, and its value is the whole number w
 module _ (n h w : ℕ) (c : ℕ → ℕ) (v : ℕ → Float) (some : 0 < n) (most : n ≤ 4096) (eight : h < 8) (all : c h ≡ n) (none : (k : ℕ) → k < 8 → (k ≡ h → ⊥) → c k ≡ 0) (ok : (k : ℕ) → k < 8 → T (within (v k))) (is : IsWhole (v h) w) where
   before : (k : ℕ) → k ≤ h → total k c v ≡ valueOf 0
   unfolding total
@@ -113,11 +113,21 @@ module _ (n h w : ℕ) (c : ℕ → ℕ) (v : ℕ → Float) (some : 0 < n) (mos
     | inr m ↦ cold (total k c v) (n * w) (c k) (v k) (room n w most (is .0)) (after k m (omega arith)) (none k b (λ e. omega arith)) (ok k b)
   ]
 
-  pub channel-whole : channel c n v ≡ valueOf w
+  channel-whole : channel c n v ≡ valueOf w
   channel-whole =
       channel-is c n v
       ∙ rw (after 8 eight (le-of-eq refl))
       (div-num (valueOf (n * w)) (valueOf n) n w some (int-val (n * w) (room n w most (is .0))) (int-val n (le-trans most (lit≤ tt))))
+
+-- the three values of a record that is whole
+pub mean-whole : (n h : ℕ) (c : ℕ → ℕ) (p : ℕ → Xyz) → 0 < n → n ≤ 4096 → h < 8 → c h ≡ n → ((k : ℕ) → k < 8 → (k ≡ h → ⊥) → c k ≡ 0) → ((k : ℕ) → k < 8 → admitted (p k) ≡ true)
+    → (x y z : ℕ) → IsWhole (p h .x) x → IsWhole (p h .y) y → IsWhole (p h .z) z → meanOf c n p ≡ record { x = valueOf x; y = valueOf y; z = valueOf z }
+mean-whole n h c p some most eight all none good x y z wx wy wz =
+    rw (
+      channel-whole n h x c (λ j. p j .x) some most eight all none (λ k l. admitted-values (p k) (good k l) .0) wx,
+      channel-whole n h y c (λ j. p j .y) some most eight all none (λ k l. admitted-values (p k) (good k l) .1) wy,
+      channel-whole n h z c (λ j. p j .z) some most eight all none (λ k l. admitted-values (p k) (good k l) .2) wz,
+    )
 
 -- ---- the value itself
 

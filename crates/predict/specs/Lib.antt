@@ -1,4 +1,5 @@
 pub mod Predicted
 pub mod Numbered
+pub mod Cellular
 pub mod Laws
 pub mod Marks

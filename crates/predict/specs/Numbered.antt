@@ -1,4 +1,4 @@
--- Rules 9.5, 11.2 and 11.3: an answer of `predict` in numbers.
+-- Rules 9.5, 11.2 and 11.3: an answer of `predict` in numbers, by a record that serves cellular prediction too.
 -- Assumes nothing: these are definitions.
 use Prim.Native.Nat.{ℕ}
 use mathlib.Core.Bool.{cond}
@@ -14,21 +14,21 @@ use Rattle.quantiser.specs.Running.{count}
 use Rattle.predict.specs.declared.Xyz.{Xyz}
 use Rattle.predict.specs.declared.Prediction.{Prediction}
 use Rattle.predict.specs.declared.Prediction.the-variants.{Colour, BadPrimary, BadScreen}
-use Rattle.predict.specs.Predicted.{plusZero, primary, firstBad, channel}
+use Rattle.predict.specs.Predicted.{plusZero, primary, firstBad, meanOf}
 
--- the refusal's number, 0 where there is none; the colorant that 11 carries; and X, Y and Z
+-- the refusal's number, 0 where there is none; the colorant or the set that 11 carries; and X, Y and Z
 pub record Numbered : Type 0 where
   pub refusal : ℕ
-  pub colorant : ℕ
+  pub carried : ℕ
   pub x : Float
   pub y : Float
   pub z : Float
 
 -- the numbers and values for each case of the answer
 abbrev pub numberedOf : Prediction → Numbered
-numberedOf (Colour x y z) = record { refusal = 0; colorant = 0; x = x; y = y; z = z }
-numberedOf (BadPrimary j) = record { refusal = 11; colorant = j; x = plusZero; y = plusZero; z = plusZero }
-numberedOf (BadScreen number) = record { refusal = number; colorant = 0; x = plusZero; y = plusZero; z = plusZero }
+numberedOf (Colour x y z) = record { refusal = 0; carried = 0; x = x; y = y; z = z }
+numberedOf (BadPrimary j) = record { refusal = 11; carried = j; x = plusZero; y = plusZero; z = plusZero }
+numberedOf (BadScreen number) = record { refusal = number; carried = 0; x = plusZero; y = plusZero; z = plusZero }
 
 -- rules 11.4 and 11.15: 11, after 1 to 4
 unfoldable pub predictRefusal : Screen → List Xyz → ℕ
@@ -38,13 +38,11 @@ predictRefusal s ps = orElse (refusalOf s) (cond (ltb (firstBad ps) 8) 11 0)
 abbrev pub valued : ℕ → Float → Float
 valued refusal v = cond (eqb refusal 0) v plusZero
 
--- what the rules say of a call
+-- a call's numbers, given its refusal, what 11 carries, and the colour that it has where it is not refused
+abbrev pub told : ℕ → ℕ → Xyz → Numbered
+told refusal carried p = record { refusal = refusal; carried = carried; x = valued refusal (p .x); y = valued refusal (p .y); z = valued refusal (p .z) }
+
+-- what the rules say of a call of `predict`
 unfoldable pub ruled : Screen → Separation → Inks → List Xyz → Numbered
 ruled s sep inks ps =
-    record {
-      refusal = predictRefusal s ps;
-      colorant = answered (refusalOf s) (cond (ltb (firstBad ps) 8) (firstBad ps) 0);
-      x = valued (predictRefusal s ps) (channel (count s sep inks) (s .n) (λ j. primary ps j .x));
-      y = valued (predictRefusal s ps) (channel (count s sep inks) (s .n) (λ j. primary ps j .y));
-      z = valued (predictRefusal s ps) (channel (count s sep inks) (s .n) (λ j. primary ps j .z));
-    }
+    told (predictRefusal s ps) (answered (refusalOf s) (cond (ltb (firstBad ps) 8) (firstBad ps) 0)) (meanOf (count s sep inks) (s .n) (primary ps))

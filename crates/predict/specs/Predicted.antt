@@ -1,7 +1,7 @@
 -- Rules 9.1 to 9.5: the predicted colour. Numbers and operations are those of IEEE 754's binary64, as the library lib.Ieee defines them:
--- `add`, `mul`, `div` and `ofInt` round once, to nearest, ties to even.
+-- `add`, `mul`, `div` and `ofInt` round once, to nearest, ties to even. Cellular.antt takes the limits of a value and the mean from here.
 -- Assumes nothing: these are definitions.
-use Prim.Native.Nat.{ℕ, zero, suc}
+use Prim.Native.Nat.{ℕ, zero, suc, _+_, _*_}
 use mathlib.Core.Bool.{Bool, false, cond, not, _&&_}
 use mathlib.Core.List.{List}
 use lib.Dec.{eqb, ltb}
@@ -40,29 +40,36 @@ admitted p = within (p .x) && within (p .y) && within (p .z)
 unfoldable pub firstBad : List Xyz → ℕ
 firstBad ps = firstBelow 8 (λ j. not (admitted (primary ps j)))
 
+-- rules 14.4 and 16.2: record number i, from 0, of a run of values, three a record. The NaNs stand for values that no call has.
+abbrev pub tripleAt : List Float → ℕ → Xyz
+tripleAt values i = record { x = getD values (3 * i) nan; y = getD values (3 * i + 1) nan; z = getD values (3 * i + 2) nan }
+
 -- rule 9.3: a sum with one more product added
 abbrev pub more : Float → ℕ → Float → Float
 more sum c v = add binary64 sum (mul binary64 (ofInt binary64 (pos c)) v)
 
--- the sum over the first k colorants, by their counts and values
+-- the sum of the first k products, of counts and values
 unfoldable pub total : ℕ → (ℕ → ℕ) → (ℕ → Float) → Float
 total zero c v = plusZero
 total (suc k) c v = more (total k c v) (c k) (v k)
 
--- and the sum over all, divided
+-- and that of all eight, divided
 unfoldable pub channel : (ℕ → ℕ) → ℕ → (ℕ → Float) → Float
 channel c n v = div binary64 (total 8 c v) (ofInt binary64 (pos n))
 
--- the same of X, Y and Z
-abbrev pub totals : ℕ → (ℕ → ℕ) → List Xyz → Xyz
-totals k c ps = record { x = total k c (λ j. primary ps j .x); y = total k c (λ j. primary ps j .y); z = total k c (λ j. primary ps j .z) }
+-- the same of X, Y and Z, of a record for each count
+abbrev pub totals : ℕ → (ℕ → ℕ) → (ℕ → Xyz) → Xyz
+totals k c p = record { x = total k c (λ j. p j .x); y = total k c (λ j. p j .y); z = total k c (λ j. p j .z) }
 
-abbrev pub meanOf : (ℕ → ℕ) → ℕ → List Xyz → Prediction
-meanOf c n ps = Colour (channel c n (λ j. primary ps j .x)) (channel c n (λ j. primary ps j .y)) (channel c n (λ j. primary ps j .z))
+abbrev pub meanOf : (ℕ → ℕ) → ℕ → (ℕ → Xyz) → Xyz
+meanOf c n p = record { x = channel c n (λ j. p j .x); y = channel c n (λ j. p j .y); z = channel c n (λ j. p j .z) }
 
 -- rule 9.5: what `predict` answers
+abbrev pub colourOf : Xyz → Prediction
+colourOf p = Colour (p .x) (p .y) (p .z)
+
 unfoldable pub predicted : Screen → Separation → Inks → List Xyz → Prediction
 predicted s sep inks ps =
     cond (eqb (refusalOf s) 0)
-    (cond (ltb (firstBad ps) 8) (BadPrimary (firstBad ps)) (meanOf (count s sep inks) (s .n) ps))
+    (cond (ltb (firstBad ps) 8) (BadPrimary (firstBad ps)) (colourOf (meanOf (count s sep inks) (s .n) (primary ps))))
     (BadScreen (refusalOf s))

@@ -1,7 +1,13 @@
-// Predicted colour: the mean of the primaries over a screen's cells (rules 9.1 to 9.5).
+// Predicted colour: the mean of the primaries over a screen's cells (rules 9.1 to 9.5). Cellular prediction
+// (rules 16.1 to 16.8) stands in files of its own, and takes the limits of a value and the mean from here.
+mod cellular;
+mod order;
+
+pub use cellular::Cellular;
+pub use cellular::predict_cellular;
 ghost use mathlib.Core.Path.{_≡_};
 ghost use lib.ListN.{getD};
-ghost use Rattle.predict.specs.Predicted.{within, admitted, firstBad, more, totals, meanOf, predicted};
+ghost use Rattle.predict.specs.Predicted.{primary, within, admitted, firstBad, more, totals, meanOf, predicted};
 ghost use Rattle.predict.specs.Numbered.{numberedOf, ruled};
 use screen::Screen;
 use separation::Inks;
@@ -36,7 +42,8 @@ pub fn predict(s: Screen, sep: Separation, inks: Inks, primaries: [Xyz; 8]) -> P
         return Prediction::BadPrimary(bad);
     }
     let of = counts.of;
-    mean(of, s.n, primaries)
+    let colour = mean(of, s.n, primaries);
+    Prediction::Colour(colour.x, colour.y, colour.z)
 }
 
 // The first colorant with a value that is not admitted, or 8.
@@ -53,6 +60,7 @@ fn first_bad(primaries: [Xyz; 8]) -> u32
     8
 }
 
+// Whether a primary's three values are.
 fn is_admitted(p: Xyz) -> bool
     ensures { λ r. ⌜ r ≡ admitted p ⌝ }
 {
@@ -66,18 +74,22 @@ fn in_range(v: f64) -> bool
     if v >= 0.0 { v <= 200.0 } else { false }
 }
 
-// The sum over the colorants, divided by the number of cells.
-fn mean(counts: [u32; 8], n: u32, primaries: [Xyz; 8]) -> Prediction
-    ensures { λ r. ⌜ r ≡ meanOf (λ j. getD counts j 0) n primaries ⌝ }
+// The sum of eight records, each so many times, divided by the number of cells.
+fn mean(times: [u32; 8], n: u32, records: [Xyz; 8]) -> Xyz
+    ensures { λ r. ⌜ r ≡ meanOf (λ j. getD times j 0) n (primary records) ⌝ }
 {
-    let sum = total(counts, primaries);
+    let sum = total(times, records);
     let cells = n as f64;
-    Prediction::Colour(sum.x / cells, sum.y / cells, sum.z / cells)
+    Xyz {
+        x: sum.x / cells,
+        y: sum.y / cells,
+        z: sum.z / cells,
+    }
 }
 
-// The sum over the colorants, in order, of each count times the primary.
-fn total(counts: [u32; 8], primaries: [Xyz; 8]) -> Xyz
-    ensures { λ r. ⌜ r ≡ totals 8 (λ j. getD counts j 0) primaries ⌝ }
+// The sum of eight records, in order, each so many times.
+fn total(times: [u32; 8], records: [Xyz; 8]) -> Xyz
+    ensures { λ r. ⌜ r ≡ totals 8 (λ j. getD times j 0) (primary records) ⌝ }
 {
     let mut sum = Xyz {
         x: 0.0,
@@ -85,12 +97,12 @@ fn total(counts: [u32; 8], primaries: [Xyz; 8]) -> Xyz
         z: 0.0,
     };
     for j in 0..8 {
-        sum = added(sum, counts[j], primaries[j]);
+        sum = added(sum, times[j], records[j]);
     }
     sum
 }
 
-// A sum with a count times a primary added.
+// A sum with a record added so many times.
 fn added(sum: Xyz, count: u32, p: Xyz) -> Xyz
     ensures { λ r. ⌜ r ≡ record { x = more (sum .x) count (p .x); y = more (sum .y) count (p .y); z = more (sum .z) count (p .z) } ⌝ }
 {

@@ -1,85 +1,137 @@
-// Prints what `predict` answers, its values as the 16 hexadecimal digits of their bits: full tones,
-// negative zeros, values that do not add up exactly, good and bad values beside the limits, bad
-// screens, and mixed cases. The file stdout holds what this must print.
+// Prints what `predict` and `predict_cellular` answer, their values as the 16 hexadecimal digits of their
+// bits. Of both: full tones, negative zeros, values that do not add up exactly, good and bad values beside
+// the limits, bad screens, and mixed cases. Of the second also: counts in every order, equal counts, and runs
+// of the right length and of others. The file stdout holds what this must print.
 ghost use Prim.Native.Nat.{_<_};
+use predict::Cellular;
 use predict::Prediction;
 use predict::Xyz;
 use screen::Screen;
 use separation::Inks;
 use separation::Separation;
 
+// What the values of the sets' records are: whole numbers, drawn hundredths, or a few times the smallest
+// number above 0.
+enum Kind {
+    Whole,
+    Uneven,
+    Small,
+}
+
 fn main() {
-    io::write_all(1, b"# primaries, a b n k g, separation, c m y: answer\n");
-    full_tones();
-    uneven_sums();
-    values();
+    let wholes = records(Kind::Whole);
+    let unevens = records(Kind::Uneven);
+    let smalls = records(Kind::Small);
+    let bad = with_value(unevens, 0, -1.0);
+    io::write_all(
+        1,
+        b"# primaries or records, a b n k g, separation, c m y: answer\n",
+    );
+    good_values(&wholes, &unevens, &smalls);
+    values(unevens);
     places();
-    bad_screens();
-    mixed();
+    set_places(unevens);
+    refusals(&unevens, &bad);
+    mixed(&unevens);
+}
+
+fn good_values(wholes: &[f64], unevens: &[f64], smalls: &[f64]) {
+    full_tones(wholes, unevens);
+    uneven_sums(wholes, unevens, smalls);
+    orders(unevens);
+    ties(unevens);
 }
 
 // One colorant alone, of 105, 1 and 4096 cells.
-fn full_tones() {
-    each_alone(listed());
-    each_alone(screen_of(1, 2, 1, 1, 0));
-    each_alone(screen_of(63, 64, 4096, 16, 4095));
+fn full_tones(wholes: &[f64], unevens: &[f64]) {
+    each_alone(listed(), wholes, unevens);
+    each_alone(screen_of(1, 2, 1, 1, 0), wholes, unevens);
+    each_alone(screen_of(63, 64, 4096, 16, 4095), wholes, unevens);
 }
 
-fn each_alone(s: Screen) {
-    show_both(b"whole", s, inks_of(255, 0, 0), whole());
-    show_both(b"whole", s, inks_of(0, 255, 0), whole());
-    show_both(b"whole", s, inks_of(0, 0, 255), whole());
-    show_both(b"whole", s, inks_of(255, 255, 0), whole());
-    show_both(b"whole", s, inks_of(255, 0, 255), whole());
-    show_both(b"whole", s, inks_of(0, 255, 255), whole());
-    show_both(b"whole", s, inks_of(255, 255, 255), whole());
-    show_both(b"whole", s, inks_of(0, 0, 0), whole());
-    show_both(b"uneven", s, inks_of(255, 0, 0), uneven());
-    show_both(b"uneven", s, inks_of(0, 0, 0), uneven());
+fn each_alone(s: Screen, wholes: &[f64], unevens: &[f64]) {
+    show_whole(s, inks_of(255, 0, 0), wholes);
+    show_whole(s, inks_of(0, 255, 0), wholes);
+    show_whole(s, inks_of(0, 0, 255), wholes);
+    show_whole(s, inks_of(255, 255, 0), wholes);
+    show_whole(s, inks_of(255, 0, 255), wholes);
+    show_whole(s, inks_of(0, 255, 255), wholes);
+    show_whole(s, inks_of(255, 255, 255), wholes);
+    show_whole(s, inks_of(0, 0, 0), wholes);
+    show_uneven(s, inks_of(255, 0, 0), unevens);
+    show_uneven(s, inks_of(0, 0, 0), unevens);
 }
 
 // Sums that are rounded, of whole numbers and of others.
-fn uneven_sums() {
-    rounded(listed());
-    rounded(screen_of(1, 2, 1, 1, 0));
-    rounded(screen_of(4, 7, 3, 2, 0));
-    rounded(screen_of(4, 7, 97, 1, 96));
-    rounded(screen_of(63, 64, 4095, 7, 0));
-    rounded(screen_of(63, 64, 4096, 16, 4095));
+fn uneven_sums(wholes: &[f64], unevens: &[f64], smalls: &[f64]) {
+    rounded(listed(), wholes, unevens, smalls);
+    rounded(screen_of(1, 2, 1, 1, 0), wholes, unevens, smalls);
+    rounded(screen_of(4, 7, 3, 2, 0), wholes, unevens, smalls);
+    rounded(screen_of(4, 7, 97, 1, 96), wholes, unevens, smalls);
+    rounded(screen_of(63, 64, 4095, 7, 0), wholes, unevens, smalls);
+    rounded(screen_of(63, 64, 4096, 16, 4095), wholes, unevens, smalls);
 }
 
-fn rounded(s: Screen) {
-    show_both(b"uneven", s, inks_of(128, 128, 0), uneven());
-    show_both(b"uneven", s, inks_of(51, 102, 204), uneven());
-    show_both(b"uneven", s, inks_of(200, 90, 140), uneven());
-    show_both(b"whole", s, inks_of(13, 77, 250), whole());
+fn rounded(s: Screen, wholes: &[f64], unevens: &[f64], smalls: &[f64]) {
+    show_uneven(s, inks_of(128, 128, 0), unevens);
+    show_uneven(s, inks_of(51, 102, 204), unevens);
+    show_uneven(s, inks_of(200, 90, 140), unevens);
+    show_whole(s, inks_of(13, 77, 250), wholes);
+    sets_of_both(b"small", s, inks_of(200, 90, 140), smalls);
 }
 
-// Values beside the limits and far from them, at the first and at the last colorant.
-fn values() {
-    beside(b"200", 200.0);
-    beside(b"199.99999999999997", 199.99999999999997);
-    beside(b"200.00000000000003", 200.00000000000003);
-    beside(b"0", 0.0);
-    beside(b"-0", -0.0);
-    beside(b"5e-324", 5e-324);
-    beside(b"-5e-324", -5e-324);
-    beside(b"-1e-300", -1e-300);
-    beside(b"-1", -1.0);
-    beside(b"200.5", 200.5);
-    beside(b"1e300", 1e300);
-    beside(b"inf", 1.0 / 0.0);
-    beside(b"-inf", -1.0 / 0.0);
-    beside(b"nan", 0.0 / 0.0);
+// Counts by the three inks in every order.
+fn orders(unevens: &[f64]) {
+    sets_of_both(b"uneven", listed(), inks_of(40, 99, 211), unevens);
+    sets_of_both(b"uneven", listed(), inks_of(40, 211, 99), unevens);
+    sets_of_both(b"uneven", listed(), inks_of(99, 40, 211), unevens);
+    sets_of_both(b"uneven", listed(), inks_of(99, 211, 40), unevens);
+    sets_of_both(b"uneven", listed(), inks_of(211, 40, 99), unevens);
+    sets_of_both(b"uneven", listed(), inks_of(211, 99, 40), unevens);
 }
 
-fn beside(name: &[u8], v: f64) {
+// Two to eight equal counts.
+fn ties(unevens: &[f64]) {
+    equal_counts(screen_of(4, 7, 8, 1, 0), unevens);
+    equal_counts(screen_of(4, 7, 24, 4, 3), unevens);
+}
+
+fn equal_counts(s: Screen, unevens: &[f64]) {
+    sets_of_both(b"uneven", s, inks_of(128, 128, 128), unevens);
+    sets_of_both(b"uneven", s, inks_of(64, 128, 191), unevens);
+    sets_of_both(b"uneven", s, inks_of(85, 170, 85), unevens);
+}
+
+// Values beside the limits and far from them, at the first and at the last colorant, in a set with weight and
+// in one without.
+fn values(unevens: [f64; 2048]) {
+    beside(b"200", 200.0, unevens);
+    beside(b"199.99999999999997", 199.99999999999997, unevens);
+    beside(b"200.00000000000003", 200.00000000000003, unevens);
+    beside(b"0", 0.0, unevens);
+    beside(b"-0", -0.0, unevens);
+    beside(b"5e-324", 5e-324, unevens);
+    beside(b"-5e-324", -5e-324, unevens);
+    beside(b"-1e-300", -1e-300, unevens);
+    beside(b"-1", -1.0, unevens);
+    beside(b"200.5", 200.5, unevens);
+    beside(b"1e300", 1e300, unevens);
+    beside(b"inf", 1.0 / 0.0, unevens);
+    beside(b"-inf", -1.0 / 0.0, unevens);
+    beside(b"nan", 0.0 / 0.0, unevens);
+}
+
+fn beside(name: &[u8], v: f64, unevens: [f64; 2048]) {
     let s = listed();
     let inks = inks_of(200, 90, 140);
     io::write_all(1, b"0 x = ");
     show(name, s, Separation::Demichel, inks, with_first(v));
     io::write_all(1, b"7 z = ");
     show(name, s, Separation::Demichel, inks, with_last(v));
+    io::write_all(1, b"set 89 x = ");
+    show_listed(name, with_value(unevens, 264, v));
+    io::write_all(1, b"set 223 z = ");
+    show_listed(name, with_value(unevens, 668, v));
 }
 
 // A bad Y at each colorant, that of the last being bad too.
@@ -100,23 +152,85 @@ fn place(j: usize) {
     show(b"nan", listed(), Separation::Kueppers, inks_of(0, 0, 0), ps);
 }
 
-// Refusals 1 to 4, at their limits, with good primaries and with a bad one.
-fn bad_screens() {
-    refused(screen_of(4, 8, 105, 2, 0));
-    refused(screen_of(0, 7, 105, 2, 0));
-    refused(screen_of(63, 65, 105, 2, 0));
-    refused(screen_of(4, 7, 0, 1, 0));
-    refused(screen_of(4, 7, 4097, 2, 0));
-    refused(screen_of(4, 7, 4294967295, 2, 0));
-    refused(screen_of(4, 7, 105, 0, 0));
-    refused(screen_of(4, 7, 105, 17, 0));
-    refused(screen_of(4, 7, 5, 6, 0));
-    refused(screen_of(4, 7, 70, 2, 70));
-    refused(screen_of(4, 8, 0, 0, 0));
-    refused(screen_of(4, 7, 5, 6, 5));
+// A bad value in the first, the last and other sets, the last place of all being bad too.
+fn set_places(unevens: [f64; 2048]) {
+    let run = with_value(unevens, 764, -1.0);
+    set_place(0, run);
+    set_place(1, run);
+    set_place(2, run);
+    set_place(3, run);
+    set_place(5, run);
+    set_place(6, run);
+    set_place(264, run);
+    set_place(266, run);
+    set_place(380, run);
+    set_place(381, run);
+    set_place(383, run);
+    set_place(384, run);
+    set_place(668, run);
+    set_place(761, run);
+    set_place(762, run);
+    set_place(764, run);
 }
 
-fn refused(s: Screen) {
+fn set_place(place: usize, run: [f64; 2048]) {
+    io::write_all(1, b"place ");
+    io::print_decimal(1, place as u64);
+    io::write_all(1, b" = ");
+    show_listed(b"nan", with_value(run, place, 0.0 / 0.0));
+}
+
+fn refusals(unevens: &[f64], bad: &[f64]) {
+    lengths(b"uneven", unevens);
+    lengths(b"set 1 x = -1", bad);
+    bad_screens(unevens, bad);
+}
+
+// Lengths beside the right one, and others.
+fn lengths(name: &[u8], run: &[f64]) {
+    show_length(name, listed(), run, 0);
+    show_length(name, listed(), run, 1);
+    show_length(name, listed(), run, 24);
+    show_length(name, listed(), run, 762);
+    show_length(name, listed(), run, 764);
+    show_length(name, listed(), run, 765);
+    show_length(name, listed(), run, 766);
+    show_length(name, listed(), run, 768);
+}
+
+fn show_length(name: &[u8], s: Screen, run: &[f64], length: usize) {
+    io::write_all(1, b"length ");
+    io::print_decimal(1, length as u64);
+    io::write_all(1, b", ");
+    show_sets(
+        name,
+        s,
+        Separation::Kueppers,
+        inks_of(51, 102, 204),
+        run,
+        0,
+        length,
+    );
+}
+
+// Refusals 1 to 4, at their limits, with good primaries and with a bad one, and with runs of right and of
+// wrong length.
+fn bad_screens(unevens: &[f64], bad: &[f64]) {
+    refused(screen_of(4, 8, 105, 2, 0), unevens, bad);
+    refused(screen_of(0, 7, 105, 2, 0), unevens, bad);
+    refused(screen_of(63, 65, 105, 2, 0), unevens, bad);
+    refused(screen_of(4, 7, 0, 1, 0), unevens, bad);
+    refused(screen_of(4, 7, 4097, 2, 0), unevens, bad);
+    refused(screen_of(4, 7, 4294967295, 2, 0), unevens, bad);
+    refused(screen_of(4, 7, 105, 0, 0), unevens, bad);
+    refused(screen_of(4, 7, 105, 17, 0), unevens, bad);
+    refused(screen_of(4, 7, 5, 6, 0), unevens, bad);
+    refused(screen_of(4, 7, 70, 2, 70), unevens, bad);
+    refused(screen_of(4, 8, 0, 0, 0), unevens, bad);
+    refused(screen_of(4, 7, 5, 6, 5), unevens, bad);
+}
+
+fn refused(s: Screen, unevens: &[f64], bad: &[f64]) {
     show_both(b"whole", s, inks_of(255, 0, 0), whole());
     io::write_all(1, b"0 x = ");
     show(
@@ -126,16 +240,21 @@ fn refused(s: Screen) {
         inks_of(255, 0, 0),
         with_first(0.0 / 0.0),
     );
+    sets_of_both(b"uneven", s, inks_of(255, 0, 0), unevens);
+    show_length(b"uneven", s, unevens, 764);
+    show_length(b"set 1 x = -1", s, bad, 765);
+    show_length(b"set 1 x = -1", s, bad, 766);
 }
 
-// Screens, ink values and primaries that are drawn one from the other, from each start.
-fn mixed() {
+// Screens, ink values and primaries that are drawn one from the other, from each start, and from every
+// second one records that begin at a drawn place.
+fn mixed(unevens: &[f64]) {
     for start in 0..80 {
-        mixed_case(start);
+        mixed_case(start, unevens);
     }
 }
 
-fn mixed_case(start: u32) {
+fn mixed_case(start: u32, unevens: &[f64]) {
     let a = next(start);
     let b = next(a);
     let n = next(b);
@@ -151,12 +270,11 @@ fn mixed_case(start: u32) {
         upper(k) % 18,
         upper(g) % 100,
     );
-    show_both(
-        b"drawn",
-        s,
-        mixed_inks(upper(c), upper(m), upper(y)),
-        drawn(y),
-    );
+    let inks = mixed_inks(upper(c), upper(m), upper(y));
+    show_both(b"drawn", s, inks, drawn(y));
+    if start % 2 == 0 {
+        parts_of_both(b"drawn", s, inks, unevens, (upper(y) % 1283) as usize);
+    }
 }
 
 fn mixed_screen(a: u32, gap: u32, n: u32, k: u32, g: u32) -> Screen
@@ -186,6 +304,43 @@ fn drawn(start: u32) -> [Xyz; 8] {
 // A hundredth of a number from 0 to 20099: those above 20000 are bad.
 fn value(n: u32) -> f64 {
     (n % 20100) as f64 / 100.0
+}
+
+// The records of all sets, which are 765 values, and values beyond them.
+fn records(kind: Kind) -> [f64; 2048] {
+    let mut run = [0.0; 2048];
+    let mut last = 0;
+    for place in 0..2048 {
+        last = next(last);
+        run[place] = record_value(kind, place as u32, upper(last));
+    }
+    run
+}
+
+// The value at a place, for which a number was drawn. Of the hundredths some from place 1700 on are bad.
+fn record_value(kind: Kind, place: u32, draw: u32) -> f64 {
+    match kind {
+        Kind::Whole => whole_value(place / 3 % 255 + 1, place % 3),
+        Kind::Uneven => {
+            if place < 1700 {
+                (draw % 20001) as f64 / 100.0
+            } else {
+                value(draw)
+            }
+        }
+        Kind::Small => (place % 7) as f64 * 5e-324,
+    }
+}
+
+// X and Y of a set are whole numbers from 0 to 200; Z is 0, of single colorants plus and minus in turn.
+fn whole_value(set: u32, channel: u32) -> f64 {
+    if channel == 0 {
+        return ((set % 256 + 137) % 201) as f64;
+    }
+    if channel == 1 {
+        return (set % 256 * 25 % 201) as f64;
+    }
+    if set % 3 == 1 { 0.0 } else { -0.0 }
 }
 
 // The number drawn after another.
@@ -241,6 +396,15 @@ fn with_last(v: f64) -> [Xyz; 8] {
     ps
 }
 
+// Records with another value at a place.
+fn with_value(records: [f64; 2048], place: usize, v: f64) -> [f64; 2048] {
+    let mut run = records;
+    if place < 2048 {
+        run[place] = v;
+    }
+    run
+}
+
 fn xyz_of(x: f64, y: f64, z: f64) -> Xyz {
     Xyz { x: x, y: y, z: z }
 }
@@ -259,12 +423,72 @@ fn inks_of(c: u8, m: u8, y: u8) -> Inks {
     Inks { c: c, m: m, y: y }
 }
 
+fn show_whole(s: Screen, inks: Inks, wholes: &[f64]) {
+    show_both(b"whole", s, inks, whole());
+    sets_of_both(b"whole", s, inks, wholes);
+}
+
+fn show_uneven(s: Screen, inks: Inks, unevens: &[f64]) {
+    show_both(b"uneven", s, inks, uneven());
+    sets_of_both(b"uneven", s, inks, unevens);
+}
+
+// Shows the answer for counts by which the set 89 has weight and the set 223 has none.
+fn show_listed(name: &[u8], run: [f64; 2048]) {
+    show_sets(
+        name,
+        listed(),
+        Separation::Demichel,
+        inks_of(200, 90, 140),
+        &run,
+        0,
+        765,
+    );
+}
+
 fn show_both(name: &[u8], s: Screen, inks: Inks, ps: [Xyz; 8]) {
     show(name, s, Separation::Demichel, inks, ps);
     show(name, s, Separation::Kueppers, inks, ps);
 }
 
+fn sets_of_both(name: &[u8], s: Screen, inks: Inks, run: &[f64]) {
+    parts_of_both(name, s, inks, run, 0);
+}
+
+fn parts_of_both(name: &[u8], s: Screen, inks: Inks, run: &[f64], from: usize) {
+    show_sets(name, s, Separation::Demichel, inks, run, from, 765);
+    show_sets(name, s, Separation::Kueppers, inks, run, from, 765);
+}
+
 fn show(name: &[u8], s: Screen, sep: Separation, inks: Inks, ps: [Xyz; 8]) {
+    show_call(name, s, sep, inks);
+    show_answer(predict::predict(s, sep, inks, ps));
+    io::write_all(1, b"\n");
+}
+
+// Lends so many places of a run, from one on, where it has them.
+fn show_sets(
+    name: &[u8],
+    s: Screen,
+    sep: Separation,
+    inks: Inks,
+    run: &[f64],
+    from: usize,
+    length: usize,
+) {
+    if run.len() < from {
+        return;
+    }
+    if run.len() - from < length {
+        return;
+    }
+    let to = from + length;
+    show_call(name, s, sep, inks);
+    show_set_answer(predict::predict_cellular(s, sep, inks, &run[from..to]));
+    io::write_all(1, b"\n");
+}
+
+fn show_call(name: &[u8], s: Screen, sep: Separation, inks: Inks) {
     io::write_all(1, name);
     io::write_all(1, b", ");
     show_screen(s);
@@ -273,17 +497,13 @@ fn show(name: &[u8], s: Screen, sep: Separation, inks: Inks, ps: [Xyz; 8]) {
     io::write_all(1, b", ");
     show_inks(inks);
     io::write_all(1, b": ");
-    show_answer(predict::predict(s, sep, inks, ps));
-    io::write_all(1, b"\n");
 }
 
 fn show_answer(answer: Prediction) {
     match answer {
         Prediction::Colour(x, y, z) => {
             io::write_all(1, b"colour");
-            bits(x);
-            bits(y);
-            bits(z);
+            show_values(x, y, z);
         }
         Prediction::BadPrimary(colorant) => {
             io::write_all(1, b"bad primary");
@@ -294,6 +514,29 @@ fn show_answer(answer: Prediction) {
             spaced(refusal);
         }
     }
+}
+
+fn show_set_answer(answer: Cellular) {
+    match answer {
+        Cellular::Colour(x, y, z) => {
+            io::write_all(1, b"cellular");
+            show_values(x, y, z);
+        }
+        Cellular::BadSet(set) => {
+            io::write_all(1, b"bad set");
+            spaced(set);
+        }
+        Cellular::Refused(refusal) => {
+            io::write_all(1, b"refused");
+            spaced(refusal);
+        }
+    }
+}
+
+fn show_values(x: f64, y: f64, z: f64) {
+    bits(x);
+    bits(y);
+    bits(z);
 }
 
 fn bits(v: f64) {

@@ -1,8 +1,10 @@
 -- The laws of specs/Laws.antt, proved.
 -- Assumes nothing.
 use native.Mathlib.Omega.{arith}
+use Rattle.arith.proofs.SumLaws.{sum-term}
 use Rattle.separation.proofs.Published.{weights-add-up, scale-odd}
-use Rattle.quantiser.specs.Laws.{RunningRises, RunningEnds, CountsAddUp, CountShare, HalvesNever, CountsAnswered, ScaleLimit, SubscreensAddUp, SubscreenPlaces, PhasePlace, ColorantBelow, PhasesInSubscreen, SubscreenShare, PhasesInAll, ThresholdLaw, ThresholdWithin, ThresholdOnce, ThresholdListed, RankBelow, RankNone, ColorantRank}
+use Rattle.quantiser.specs.Running.{count}
+use Rattle.quantiser.specs.Laws.{RunningRises, RunningEnds, CountsAddUp, CountWithin, CountShare, HalvesNever, CountsAnswered, ScaleLimit, SubscreensAddUp, SubscreenPlaces, PhasePlace, ColorantBelow, PhasesInSubscreen, SubscreenShare, PhasesInAll, ThresholdLaw, ThresholdWithin, ThresholdOnce, ThresholdListed, RankBelow, RankNone, ColorantRank}
 use Rattle.quantiser.proofs.LevelLaws as LevelLaws
 use Rattle.quantiser.proofs.RunningLaws as RunningLaws
 use Rattle.quantiser.proofs.SubscreenLaws as SubscreenLaws
@@ -18,6 +20,9 @@ running-ends s ok sep inks v = RunningLaws.running-ends s sep inks (weights-add-
 
 pub counts-add-up : CountsAddUp
 counts-add-up s ok sep inks v = RunningLaws.counts-add-up s sep inks (weights-add-up sep inks v)
+
+pub count-within : CountWithin
+count-within s ok sep inks v j l = omega (arith, sum-term 8 (count s sep inks) j l, counts-add-up s ok sep inks v)
 
 pub count-share : CountShare
 count-share s ok sep inks v j = (RunningLaws.count-low s sep inks j, RunningLaws.count-high s sep inks j)

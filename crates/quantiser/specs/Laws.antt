@@ -36,6 +36,10 @@ RunningEnds = Always (λ s sep inks. running s sep inks 7 ≡ s .n)
 abbrev pub CountsAddUp : Type 0
 CountsAddUp = Always (λ s sep inks. sumBelow 8 (count s sep inks) ≡ s .n)
 
+-- so that none is above N
+abbrev pub CountWithin : Type 0
+CountWithin = Always (λ s sep inks. (j : ℕ) → j < 8 → count s sep inks j ≤ s .n)
+
 -- rules 4.5 and 13.5, the count is the share rounded down or up: of one colorant, and of all
 abbrev pub ShareRounded : Screen → Separation → Inks → ℕ → Type 0
 ShareRounded s sep inks j = Rounded (s .n * weight sep inks j) (scaleOf sep) (count s sep inks j)

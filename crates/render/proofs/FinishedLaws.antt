@@ -47,7 +47,7 @@ module _ (s : Screen) (ok : Admitted s) (g : ℕ → ℕ) (x y : ℕ) where
       let h : ℕ = Brick.rows s in
       let l : ℕ = Brick.columns s in
       sum-places h l (λ r c. g (phase s (x + (i + c)) (y + (j + r))))
-      ∙ sum-along (h * l) (s .n) (λ k. phase s (x + (i + k % l)) (y + (j + k / l))) g (λ k. phase-below s ok _ _)
+      ∙ sum-along (h * l) (s .n) (λ k. phase s (x + (i + k % l)) (y + (j + k / l))) g (λ k m. phase-below s ok _ _)
       (λ p b. sym (sum-places h l (λ r c. indicator (eqb (phase s (x + (i + c)) (y + (j + r))) p))) ∙ simp (← add-assoc) (each-phase-once s ok (x + i) (y + j) p b))
 
   -- over a window of u by v bricks: u * v times over the phases

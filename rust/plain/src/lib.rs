@@ -9,6 +9,7 @@
 
 mod bill;
 mod brick;
+mod cellular;
 mod counts_program;
 mod plates;
 mod predict;
@@ -20,6 +21,7 @@ mod separation;
 
 pub use bill::{charge_of, Charge};
 pub use brick::{brick_of, fill_brick, Brick};
+pub use cellular::{colorant_order, colorant_sets, predict_cellular, set_weights, Cellular};
 pub use counts_program::counts_program;
 pub use plates::{pack, unpack};
 pub use predict::{predict, Prediction};
@@ -29,7 +31,7 @@ pub use screen::{phase, phase_at, screen_refusal, Place, Screen};
 pub use separation::{scale, weights, Inks, Separation};
 
 /// The number of the rules that this implementation is written from (rule 14.1).
-pub const RULES: u32 = 1;
+pub const RULES: u32 = 2;
 
 /// The refusal of a separation that is neither 0 (Demichel) nor 1 (Kueppers), tested before all else
 /// (rule 14.3).

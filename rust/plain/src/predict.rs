@@ -18,13 +18,26 @@ fn good(value: f64) -> bool {
     (0.0..=200.0).contains(&value)
 }
 
-/// One of X, Y, Z: the sum of the eight products, by colorant, divided by N (rule 9.3).
-fn mean(n: u32, counts: [u32; 8], primaries: &[f64], coordinate: usize) -> f64 {
-    let mut sum = 0.0;
-    for colorant in 0..8 {
-        sum += f64::from(counts[colorant]) * primaries[3 * colorant + coordinate];
-    }
-    sum / f64::from(n)
+/// The place, counted from 0, of the first primary in a run that has a value which is not admitted.
+pub(crate) fn first_bad(primaries: &[f64]) -> Option<usize> {
+    primaries.chunks(3).position(|primary| !primary.iter().all(|value| good(*value)))
+}
+
+/// X, Y, Z of the primary at a place, counted from 0, of a run.
+pub(crate) fn primary(primaries: &[f64], place: usize) -> [f64; 3] {
+    [0, 1, 2].map(|coordinate| primaries[3 * place + coordinate])
+}
+
+/// X, Y, Z of a patch: for each the sum of eight weights times their primaries' values, in the order in which
+/// they are handed in, divided by N (rules 9.3 and 16.5).
+pub(crate) fn mean(n: u32, weights: [u32; 8], primaries: [[f64; 3]; 8]) -> [f64; 3] {
+    [0, 1, 2].map(|coordinate| {
+        let mut sum = 0.0;
+        for (weight, primary) in weights.iter().zip(primaries) {
+            sum += f64::from(*weight) * primary[coordinate];
+        }
+        sum / f64::from(n)
+    })
 }
 
 /// The predicted colour, from eight primaries of X, Y, Z each, or why it is refused. A length other than 24
@@ -40,12 +53,10 @@ pub fn predict(s: Screen, separation: u32, inks: Inks, primaries: &[f64]) -> Pre
     if primaries.len() != 24 {
         return Prediction { refusal: 6, ..Prediction::default() };
     }
-    for colorant in 0..8 {
-        if !primaries[3 * colorant..3 * colorant + 3].iter().all(|value| good(*value)) {
-            return Prediction { refusal: 11, colorant: colorant as u32, ..Prediction::default() };
-        }
+    if let Some(colorant) = first_bad(primaries) {
+        return Prediction { refusal: 11, colorant: colorant as u32, ..Prediction::default() };
     }
     let counts = counts(s.n, separation, inks);
-    let xyz = [0, 1, 2].map(|coordinate| mean(s.n, counts, primaries, coordinate));
-    Prediction { refusal: 0, colorant: 0, xyz }
+    let primaries = [0, 1, 2, 3, 4, 5, 6, 7].map(|colorant| primary(primaries, colorant));
+    Prediction { refusal: 0, colorant: 0, xyz: mean(s.n, counts, primaries) }
 }

@@ -1,9 +1,9 @@
 //! Cells a second of the compiled library: both renderers on flat, gradient and noisy images, packing and
-//! unpacking; beside each the plain second implementation and a copy of the same input bytes, measured in
-//! the same run. Two lines follow with the time of a call: for a lone cell and for the charge of a job. Run by
-//! `cargo run --release --features bench --bin bench`.
+//! unpacking; beside each the plain second implementation and a copy of the same input bytes, measured in the
+//! same run. Three lines follow with the time of a call: for a lone cell, for the charge of a job and for a
+//! cellular prediction. Run by `cargo run --release --features bench --bin bench`.
 
-use cavzemil::{charge, pack, unpack, Inks, Screen, Separation, Window};
+use cavzemil::{charge, pack, unpack, Inks, Screen, Separation, Window, Xyz};
 use cavzemil_plain as plain;
 use cavzemil_plain::random::Random;
 use std::hint::black_box;
@@ -26,6 +26,10 @@ const LONE_CELLS: u32 = 100_000;
 /// How many charges are asked for, and the windows of their job.
 const CHARGES: u32 = 10_000;
 const JOB_WINDOWS: u32 = 1_000;
+
+/// How many cellular predictions are asked for, and the values of their primaries.
+const PREDICTIONS: u32 = 100_000;
+const PRIMARIES: u32 = 765;
 
 /// The screen, as both implementations take it.
 const SCREEN: Screen = Screen { a: 4, b: 7, n: 105, k: 2, g: 0 };
@@ -89,6 +93,12 @@ fn print_row(call: &str, library: f64, plain: f64, copy: f64) {
     );
 }
 
+/// Prints the time of a call, in nanoseconds, from the seconds that so many took.
+fn print_call(call: &str, calls: u32, library: f64, plain: f64) {
+    let nanoseconds = |seconds: f64| seconds * 1e9 / f64::from(calls);
+    println!("{call}: {:.0} ns a call; plain {:.0} ns", nanoseconds(library), nanoseconds(plain));
+}
+
 /// Measures the renderer that works phases out.
 fn measure_render(separation: Separation, (name, input): &Image) {
     let (mut cells, mut plain_cells) = (vec![8; CELLS], vec![8; CELLS]);
@@ -140,7 +150,7 @@ fn measure_plates((name, input): &Image) {
     print_row(&format!("unpack, {name}"), library, plain, copy_speed(&planes));
 }
 
-/// Measures lone cells on a screen of 4,096 cells, in nanoseconds a call: a window that meets one phase.
+/// Measures lone cells on a screen of 4,096 cells: a window that meets one phase.
 fn measure_lone_cells() {
     let (screen, plain_screen) = (Screen { n: 4096, ..SCREEN }, plain::Screen { n: 4096, ..PLAIN_SCREEN });
     let places = || (0..LONE_CELLS).map(|place| (place % SIDE, place / 7));
@@ -155,11 +165,10 @@ fn measure_lone_cells() {
             black_box(plain::cell_at(plain_screen, Separation::Kueppers.number(), x, y, [51, 102, 204]));
         });
     });
-    let nanoseconds = |seconds: f64| seconds * 1e9 / f64::from(LONE_CELLS);
-    println!("cell_at, n = 4096: {:.0} ns a call; plain {:.0} ns", nanoseconds(library), nanoseconds(plain));
+    print_call("cell_at, n = 4096", LONE_CELLS, library, plain);
 }
 
-/// Measures the charge of the longest job, in nanoseconds a call.
+/// Measures the charge of the longest job.
 fn measure_charge() {
     let mut random = Random::new(8);
     let prices = [0; 8].map(|_: u32| random.between(0, 1_000_000));
@@ -175,12 +184,31 @@ fn measure_charge() {
         });
     });
     assert_eq!(screened(charge(prices, &tallies)), plain::charge_of(prices, &tallies).cents);
-    let nanoseconds = |seconds: f64| seconds * 1e9 / f64::from(CHARGES);
-    println!(
-        "charge, {JOB_WINDOWS} windows: {:.0} ns a call; plain {:.0} ns",
-        nanoseconds(library),
-        nanoseconds(plain)
-    );
+    print_call(&format!("charge, {JOB_WINDOWS} windows"), CHARGES, library, plain);
+}
+
+/// Measures cellular predictions of ink values that change from call to call.
+fn measure_predict_cellular() {
+    let mut random = Random::new(9);
+    let primaries: Vec<f64> = (0..PRIMARIES).map(|_| f64::from(random.between(0, 2000)) / 10.0).collect();
+    let patches = || (0..PREDICTIONS).map(|patch| [patch as u8, (patch / 7) as u8, (patch / 61) as u8]);
+    let library = seconds(REPEATS, || {
+        patches().for_each(|[c, m, y]| {
+            let inks = Inks { c, m, y };
+            black_box(screened(SCREEN.predict_cellular(Separation::Demichel, inks, black_box(&primaries))));
+        });
+    });
+    let plain = seconds(PLAIN_REPEATS, || {
+        patches().for_each(|inks| {
+            let number = Separation::Demichel.number();
+            black_box(plain::predict_cellular(PLAIN_SCREEN, number, inks, black_box(&primaries)));
+        });
+    });
+    let Xyz { x, y, z } =
+        screened(SCREEN.predict_cellular(Separation::Demichel, Inks { c: 128, m: 128, y: 0 }, &primaries));
+    let expected = plain::predict_cellular(PLAIN_SCREEN, 0, [128, 128, 0], &primaries).xyz;
+    assert_eq!([x, y, z], expected, "both implementations predict alike");
+    print_call(&format!("predict_cellular, {PRIMARIES} values"), PREDICTIONS, library, plain);
 }
 
 /// The answer of a call that is not refused.
@@ -204,4 +232,5 @@ fn main() {
     images.iter().for_each(measure_plates);
     measure_lone_cells();
     measure_charge();
+    measure_predict_cellular();
 }

@@ -1,6 +1,6 @@
 //! A case: one call put to both implementations, that can tell itself and shrink.
 
-use cavzemil_plain::{Screen, Window};
+use cavzemil_plain::{Inks, Screen, Window};
 use std::fmt::Debug;
 
 /// What both implementations answered where they differ.
@@ -72,6 +72,19 @@ pub fn smaller_screens(s: Screen) -> Vec<Screen> {
     screens.extend(smaller_numbers(s.a).map(|a| Screen { a, ..s }));
     screens.extend(smaller_numbers(s.b).map(|b| Screen { b, ..s }));
     screens
+}
+
+/// Ink values of which one is smaller.
+pub fn smaller_inks(inks: Inks) -> Vec<Inks> {
+    let mut smaller = Vec::new();
+    for ink in 0..3 {
+        for value in smaller_numbers(u32::from(inks[ink])) {
+            let mut choice = inks;
+            choice[ink] = value as u8;
+            smaller.push(choice);
+        }
+    }
+    smaller
 }
 
 /// Windows smaller than this one: of fewer columns or rows, or nearer to the sheet's corner.

@@ -1,8 +1,7 @@
 //! Counts and lone cells (rules 5.5 and 7.8).
 
-use crate::case::{
-    compare, differing, screen_words, separation_words, smaller_numbers, smaller_screens, Case, Mismatch,
-};
+use crate::case::{compare, differing, screen_words, separation_words, Case, Mismatch};
+use crate::case::{smaller_inks, smaller_numbers, smaller_screens};
 use crate::{choose, promises::draw, subject};
 use cavzemil_plain::random::Random;
 use cavzemil_plain::{Inks, Screen};
@@ -15,21 +14,6 @@ struct CellCase {
     x: u32,
     y: u32,
     inks: Inks,
-}
-
-impl CellCase {
-    /// Cases with one ink value smaller.
-    fn smaller_inks(&self) -> Vec<CellCase> {
-        let mut cases = Vec::new();
-        for ink in 0..3 {
-            for value in smaller_numbers(u32::from(self.inks[ink])) {
-                let mut case = self.clone();
-                case.inks[ink] = value as u8;
-                cases.push(case);
-            }
-        }
-        cases
-    }
 }
 
 impl Case for CellCase {
@@ -58,7 +42,7 @@ impl Case for CellCase {
         let mut cases: Vec<CellCase> = screens.map(|screen| CellCase { screen, ..self.clone() }).collect();
         cases.extend(smaller_numbers(self.x).map(|x| CellCase { x, ..self.clone() }));
         cases.extend(smaller_numbers(self.y).map(|y| CellCase { y, ..self.clone() }));
-        cases.extend(self.smaller_inks());
+        cases.extend(smaller_inks(self.inks).into_iter().map(|inks| CellCase { inks, ..self.clone() }));
         cases
     }
 }

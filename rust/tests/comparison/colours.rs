@@ -1,13 +1,13 @@
 //! Predicted colours, compared bit by bit (rules 9.1 to 9.5).
 
 use crate::case::{
-    compare, differing, screen_words, separation_words, smaller_numbers, smaller_screens, Case, Mismatch,
+    compare, differing, screen_words, separation_words, smaller_inks, smaller_screens, Case, Mismatch,
 };
 use crate::guarded::Guarded;
+use crate::values::{bad_value, simpler_values, value, Bits, BAD_VALUES, GOOD_VALUES};
 use crate::{choose, promises::draw, subject};
 use cavzemil_plain::random::Random;
-use cavzemil_plain::{Inks, Prediction, Screen};
-use std::fmt;
+use cavzemil_plain::{Inks, Screen};
 
 /// A call of predict.
 #[derive(Clone)]
@@ -16,31 +16,6 @@ struct ColourCase {
     separation: u32,
     inks: Inks,
     primaries: Vec<f64>,
-}
-
-/// A prediction with its colour in bits, so that zeros of both signs differ.
-#[derive(PartialEq)]
-struct Bits {
-    refusal: u32,
-    colorant: u32,
-    xyz: [u64; 3],
-}
-
-impl From<Prediction> for Bits {
-    /// Keeps a prediction's bits.
-    fn from(prediction: Prediction) -> Bits {
-        let Prediction { refusal, colorant, xyz } = prediction;
-        Bits { refusal, colorant, xyz: xyz.map(f64::to_bits) }
-    }
-}
-
-impl fmt::Debug for Bits {
-    /// Tells the colour by its values and by their bits.
-    fn fmt(&self, formatter: &mut fmt::Formatter) -> fmt::Result {
-        let Bits { refusal, colorant, xyz } = self;
-        let colour = xyz.map(f64::from_bits);
-        write!(formatter, "refusal {refusal}, colorant {colorant}, colour {colour:?}, in bits {xyz:x?}")
-    }
 }
 
 impl Case for ColourCase {
@@ -64,47 +39,15 @@ impl Case for ColourCase {
         let screens = smaller_screens(self.screen).into_iter();
         let mut cases: Vec<ColourCase> =
             screens.map(|screen| ColourCase { screen, ..self.clone() }).collect();
-        for ink in 0..3 {
-            for value in smaller_numbers(u32::from(self.inks[ink])) {
+        cases.extend(smaller_inks(self.inks).into_iter().map(|inks| ColourCase { inks, ..self.clone() }));
+        for place in 0..self.primaries.len() {
+            for value in simpler_values(self.primaries[place]) {
                 let mut case = self.clone();
-                case.inks[ink] = value as u8;
+                case.primaries[place] = value;
                 cases.push(case);
             }
         }
-        for place in (0..self.primaries.len()).filter(|place| self.primaries[*place].to_bits() != 0) {
-            for value in [0.0, 1.0, self.primaries[place].trunc()] {
-                let mut case = self.clone();
-                case.primaries[place] = value;
-                let simpler = value == 0.0 || self.primaries[place].fract() != 0.0;
-                cases.extend(simpler.then_some(case));
-            }
-        }
         cases
-    }
-}
-
-/// Values that are good: the ends, zeros of both signs, whole, tiny, subnormal and beside the ends.
-fn good_values() -> Vec<f64> {
-    let below_200 = f64::from_bits(200.0f64.to_bits() - 1);
-    vec![0.0, -0.0, 1.0, 17.0, 199.0, 200.0, below_200, 5e-324, 1e-310, f64::MIN_POSITIVE, 0.1, 1e-16]
-}
-
-/// Values that are bad: beside the ends, infinite, huge, not numbers.
-fn bad_values() -> Vec<f64> {
-    let above_200 = f64::from_bits(200.0f64.to_bits() + 1);
-    let signalling = f64::from_bits(0x7ff0_0000_0000_0001);
-    let bad = [above_200, 200.5, -5e-324, -f64::MIN_POSITIVE, -1.0, 1e308, -1e308];
-    let odd = [f64::INFINITY, f64::NEG_INFINITY, f64::NAN, -f64::NAN, signalling];
-    [&bad[..], &odd[..]].concat()
-}
-
-/// A good value: any from 0 to 200, or a marked one.
-fn value(random: &mut Random) -> f64 {
-    match random.between(0, 3) {
-        0 => random.one_of(&good_values()),
-        1 => f64::from(random.between(0, 200)),
-        2 => f64::from_bits(random.bits() % 200.0f64.to_bits()),
-        _ => 200.0 * (random.bits() >> 11) as f64 / (1u64 << 53) as f64,
     }
 }
 
@@ -114,8 +57,7 @@ fn primaries(random: &mut Random) -> Vec<f64> {
     if random.once_in(6) {
         for _ in 0..random.between(1, 3) {
             let place = random.between(0, 23) as usize;
-            let (any, bad) = (f64::from_bits(random.bits()), random.one_of(&bad_values()));
-            primaries[place] = random.one_of(&[any, bad]);
+            primaries[place] = bad_value(random);
         }
     }
     primaries
@@ -126,7 +68,7 @@ fn primaries(random: &mut Random) -> Vec<f64> {
 fn limits_of_primaries() {
     let screen = Screen { a: 4, b: 7, n: 105, k: 2, g: 0 };
     for place in 0..24 {
-        for value in good_values().into_iter().chain(bad_values()) {
+        for value in GOOD_VALUES.into_iter().chain(BAD_VALUES) {
             for other in [0, 12, 23] {
                 let mut primaries = vec![50.5; 24];
                 primaries[other] = 200.5;

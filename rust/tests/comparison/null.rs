@@ -58,3 +58,17 @@ fn bricks_plates_and_primaries_may_be_null() {
     assert_eq!(unsafe { ffi::cavzemil_unpack(65_537, 0, null(), 0, null_mut(), 0) }, 5);
     assert_eq!(unsafe { ffi::cavzemil_predict(s, DEMICHEL, 1, 2, 3, null(), 0) }.refusal, 6);
 }
+
+#[test]
+fn primaries_of_sets_may_be_null() {
+    let refusal = |screen, separation| {
+        let s = c_screen(screen);
+        let answer = unsafe { ffi::cavzemil_predict_cellular(s, separation, 1, 2, 3, null(), 0) };
+        assert_eq!((answer.set, [answer.x, answer.y, answer.z].map(f64::to_bits)), (0, [0; 3]));
+        answer.refusal
+    };
+    assert_eq!(refusal(SCREEN, DEMICHEL), 14);
+    assert_eq!(refusal(SCREEN, KUEPPERS), 14);
+    assert_eq!(refusal(Screen { g: 70, ..SCREEN }, KUEPPERS), 4);
+    assert_eq!(refusal(Screen { g: 70, ..SCREEN }, 2), 100);
+}

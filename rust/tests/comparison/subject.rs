@@ -1,7 +1,8 @@
 //! The compiled library's calls, in the plain implementation's types.
 
 use cavzemil::{calls, ffi};
-use cavzemil_plain::{Brick, Cell, Charge, Counts, Inks, Place, Prediction, Rendering, Screen, Window};
+use cavzemil_plain::{Brick, Cell, Cellular, Charge, Counts, Inks, Place, Prediction, Rendering};
+use cavzemil_plain::{Screen, Window};
 
 /// Plates are bytes on both sides, so these two calls need no translation.
 pub use cavzemil::calls::{pack, unpack};
@@ -71,6 +72,12 @@ pub fn render_brick(
 pub fn predict(s: Screen, separation: u32, inks: Inks, primaries: &[f64]) -> Prediction {
     let answer = calls::predict(c_screen(s), separation, inks, primaries);
     Prediction { refusal: answer.refusal, colorant: answer.colorant, xyz: [answer.x, answer.y, answer.z] }
+}
+
+/// The predicted colour from all sets of colorants.
+pub fn predict_cellular(s: Screen, separation: u32, inks: Inks, primaries: &[f64]) -> Cellular {
+    let answer = calls::predict_cellular(c_screen(s), separation, inks, primaries);
+    Cellular { refusal: answer.refusal, set: answer.set, xyz: [answer.x, answer.y, answer.z] }
 }
 
 /// The charge of a job.

@@ -1,6 +1,5 @@
 -- `predict::predict` meets its contract: in each case the answer is that of the definition, and so is what the rules say of it in numbers.
 -- Assumes nothing.
-use mathlib.Core.Path.{_∙_}
 use borrow.Author.Needs.{needs}
 use Rattle.predict.proofs.Steps.{promised, screen-refused, primary-refused, colour-answered}
 use Rattle.predict.proofs.predict.Statement.{statement}
@@ -25,7 +24,7 @@ mean-requires c κs = search needs
 returns-3 : tie.Need-returns-3
 returns-3 c =
     promised _ _ _ _ _
-    (c .mean .ensures ∙ colour-answered _ _ _ _ _ (c .before .before .before .before .before .before .counts .ensures) (c .before .before .before .before .if1 .left) _ (c .before .before .before .first-bad .ensures) (c .before .before .if2 .left))
+    (colour-answered _ _ _ _ _ (c .before .before .before .before .before .before .counts .ensures) (c .before .before .before .before .if1 .left) _ (c .before .before .before .first-bad .ensures) (c .before .before .if2 .left) _ (c .mean .ensures))
 
 pub predict-spec : {M : Type 1} → statement M
 predict-spec =

@@ -1,20 +1,20 @@
--- `predict::total` meets its contract: after j turns it has the sum over the first j colorants. Assumes nothing.
+-- `predict::total` meets its contract: after j turns it has the sum of the first j records. Assumes nothing.
 use Prim.Native.Nat.{_≤_, _-_}
 use mathlib.Core.Path.{_≡_, refl, _∙_}
 use native.Mathlib.Omega.{arith}
 use lib.Ieee.{ofBits}
 use lib.ListN.{getD}
 use borrow.Author.Needs.{needs}
-use Rattle.predict.specs.Predicted.{total, totals}
+use Rattle.predict.specs.Predicted.{primary, total, totals}
 use Rattle.predict.proofs.Steps.{totals-next}
 use Rattle.predict.proofs.total.Statement.{statement}
 use Rattle.predict.proofs.total.Tie as tie
 
 abbrev Inv-loop : tie.InvT-loop
-Inv-loop counts primaries sum₀ j₀ sum j = (j ≤ 8) × (sum ≡ totals j (λ i. getD counts i 0) primaries)
+Inv-loop times records sum₀ j₀ sum j = (j ≤ 8) × (sum ≡ totals j (λ i. getD times i 0) (primary records))
 
 abbrev μ-loop : tie.MeasureT-loop
-μ-loop counts primaries sum₀ j₀ sum j = 8 - j
+μ-loop times records sum₀ j₀ sum j = 8 - j
 
 loop-holds : tie.Need-loop-holds Inv-loop μ-loop
 unfolding total ofBits
@@ -42,7 +42,7 @@ loop-less : tie.Need-loop-less Inv-loop μ-loop
 loop-less c = search needs
 
 loop-again : tie.Need-loop-again Inv-loop μ-loop
-loop-again c = (omega arith, c .added .ensures ∙ rw (c .before .before .before .loop .inv .1) (totals-next _ _ (c .before .before .before .before .args .t2)))
+loop-again c = (omega arith, c .added .ensures ∙ rw (c .before .before .before .loop .inv .1) (totals-next _ _ (primary (c .before .before .before .before .args .t2))))
 
 returns : tie.Need-returns Inv-loop μ-loop
 returns c =

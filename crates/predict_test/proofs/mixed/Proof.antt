@@ -5,10 +5,10 @@ use Rattle.predict_test.proofs.mixed.Statement.{statement}
 use Rattle.predict_test.proofs.mixed.Tie as tie
 
 abbrev Inv-loop : tie.InvT-loop
-Inv-loop start₀ start = start ≤ 80
+Inv-loop unevens start₀ start = start ≤ 80
 
 abbrev μ-loop : tie.MeasureT-loop
-μ-loop start₀ start = 80 - start
+μ-loop unevens start₀ start = 80 - start
 
 loop-holds : tie.Need-loop-holds Inv-loop μ-loop
 loop-holds c = search needs

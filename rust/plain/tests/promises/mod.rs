@@ -2,6 +2,7 @@
 //! that includes this one, so that the plain and the compiled library stand the same test.
 
 pub mod bills;
+mod cellular;
 pub mod draw;
 mod finished_windows;
 mod marks;
