@@ -143,9 +143,9 @@ cavzemil_prediction cavzemil_predict(cavzemil_screen s, uint32_t separation, uin
 /* The colour of a patch of these ink values, predicted by sets of colorants (rules 16.1 to 16.8): the mean of eight
    sets' primaries. The first set holds the colorant of the largest count, and each next takes in one colorant more,
    by falling counts and at equal counts the lower number first; the k-th weighs k times what the k-th count has
-   more than the next. A set's number, 1 to 255, is the sum of 1 << j over its colorants j. The primaries are 765
-   values, X, Y, Z of each set in turn from 1 on, each 0 to 200, also where the set has no weight; another length is
-   refused as 14. Refusals 100, 1 to 4, 14, 11. */
+   more than the next, or than 0 where there is none. A set's number, 1 to 255, is the sum of 1 << j over its
+   colorants j. The primaries are 765 values, X, Y, Z of each set in turn from 1 on, each 0 to 200, also where the
+   set has no weight; another length is refused as 14. Refusals 100, 1 to 4, 14, 11. */
 cavzemil_cellular cavzemil_predict_cellular(cavzemil_screen s, uint32_t separation, uint8_t c, uint8_t m,
                                             uint8_t y, const double *primaries, size_t primaries_len);
 

@@ -145,6 +145,11 @@ assert example[-1][0] == [3, 0, 1, 7, 2, 4, 5, 6]
 assert [weight for _, weight in example] == [1, 0, 0, 104, 0, 0, 0, 0]
 assert [set_number(held) for held, _ in example] == [8, 9, 11, 139, 143, 159, 191, 255]
 
+# and that of rule 12.17
+tone = [4.1, -0.0, 200.0] * 254 + [0.8, -0.0, 200.0]
+example = "cellular 4008c118de5ab279 0000000000000000 4069000000000000"
+assert answer_by_sets(LISTED, "demichel", (200, 90, 140), tone) == example
+
 print("# primaries or records, a b n k g, separation, c m y: answer")
 for screen in LISTED, ONE, MOST:
     for inks in FULL:

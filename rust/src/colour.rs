@@ -86,7 +86,7 @@ impl Colorant {
         self as u8
     }
 
-    /// The colorants of a set, in their order, by its number: the sum of 2 to the number of each (rule 16.2).
+    /// The colorants of a set, in their order, by its number, in which colorant j counts 2^j (rule 16.2).
     ///
     /// ```
     /// use cavzemil::Colorant;

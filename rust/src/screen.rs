@@ -190,8 +190,8 @@ impl Screen {
     /// colorant more than the set before, weighed by the counts (rules 16.1 to 16.8).
     ///
     /// The primaries are 765 values: X, Y, Z of each of 255 sets, one after the other by the sets' numbers. A
-    /// set's number is the sum of 2 to the number of each of its colorants, so 1 to 255; [`Colorant::of_set`]
-    /// goes the other way. Its colour is that of a patch whose cells its colorants share evenly.
+    /// set's number, 1 to 255, counts 2^j for each of its colorants j; [`Colorant::of_set`] goes the other way.
+    /// Its colour is that of a patch whose cells its colorants share evenly.
     ///
     /// Refused as 14 for other than 765 values, and then as 11, which carries the lowest set that has a value
     /// which isn't 0 to 200, whether this patch needs it or not.

@@ -1,7 +1,7 @@
 -- A number written in base 2: the sum of 2 to each place whose digit is 1.
 -- Assumes nothing.
 use Prim.Native.Nat.{ℕ, zero, suc, _+_, _-_, _*_, _/_, _%_, _^_, _≤_, _<_}
-use mathlib.Core.Path.{_≡_, sym, ap, _∙_, subst}
+use mathlib.Core.Path.{_≡_, ap, _∙_}
 use mathlib.Core.Logic.{_⊎_, inl, inr}
 use native.Mathlib.Nat.{le-of-suc-le-suc, eq-or-lt-of-le, add-mul-div-right, add-mul-mod-self-right, div-eq-of-lt, mul-le-mul-right, pow-suc}
 use native.Mathlib.Omega.{arith}

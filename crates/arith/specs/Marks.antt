@@ -1,4 +1,4 @@
--- Small numbers, and what two laws say of them. proofs/AllMarks.antt shows them by computing the definitions.
+-- Small numbers, and what three laws say of them. proofs/AllMarks.antt shows them by computing the definitions.
 -- Assumes nothing: these are statements.
 use Prim.Native.Nat.{ℕ, _+_, _%_, _≤_, _<_, _∣_}
 use mathlib.Core.Path.{_≡_}

@@ -28,11 +28,11 @@ use Rattle.bill.specs.Charges.{added, pricesAdmitted, cellsIn, windowsAdmitted,
 use Rattle.cavzemil.specs.Separations.{known, separationOf}
 use Rattle.cavzemil.specs.Windows.{cellGiven, renderingGiven, outputGiven}
 use Rattle.cavzemil.specs.Colours.{countsGiven, primariesIn, valuesRefusal, predictionGiven}
-use Rattle.cavzemil.specs.Cellular.{cellularAnswer}
+use Rattle.cavzemil.specs.Cellular.{cellularGiven}
 use Rattle.cavzemil.specs.Marks.{Marks}
 
 pub marks : Marks
-unfolding le every firstBelow gcdOf remainderOf upto zeros sumBelow tally slopeAdmitted cellsAdmitted subscreensAdmitted offsetAdmitted refusalOf onSheet phaseOf placeRefusal placeOf shiftOf brickOf weight scaleOf weightUpTo level running count subscreenSize subscreenStart subscreenOf distanceOf fillUpTo colorantAt colorantOf cellOf windowCell windowCells talliesOf windowRefusal dueIn brickRefusal answerOf firstBad predictRefusal ruled added pricesAdmitted cellsIn windowsAdmitted chargeRefusal costOf charged known separationOf cellGiven renderingGiven outputGiven countsGiven primariesIn valuesRefusal predictionGiven add mul div ofInt ofBits ahead placeAmong ordered total channel fallingCount weightAt setAlong firstBadSet runRefusal cellularRefusal Cells.ruled records cellularAnswer
+unfolding le every firstBelow gcdOf remainderOf upto zeros sumBelow tally slopeAdmitted cellsAdmitted subscreensAdmitted offsetAdmitted refusalOf onSheet phaseOf placeRefusal placeOf shiftOf brickOf weight scaleOf weightUpTo level running count subscreenSize subscreenStart subscreenOf distanceOf fillUpTo colorantAt colorantOf cellOf windowCell windowCells talliesOf windowRefusal dueIn brickRefusal answerOf firstBad predictRefusal ruled added pricesAdmitted cellsIn windowsAdmitted chargeRefusal costOf charged known separationOf cellGiven renderingGiven outputGiven countsGiven primariesIn valuesRefusal predictionGiven add mul div ofInt ofBits ahead placeAmong ordered total channel fallingCount weightAt setAlong firstBadSet runRefusal cellularRefusal Cells.ruled records cellularGiven
 marks =
     record {
       placed = refl;

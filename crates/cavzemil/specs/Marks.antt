@@ -73,7 +73,7 @@ pub record Marks : Type 0 where
   pub unknown-cellular : cellularAnswer sloped 2 half shorter ≡ uncoloured 100 0
   pub short-cellular : cellularAnswer listed 0 half shorter ≡ uncoloured 14 0
   pub bad-cellular : cellularAnswer listed 0 half cyanUnset ≡ uncoloured 11 1
-  pub cellular-colour : cellularAnswer listed 0 (inksOf 200 90 140) sets ≡ record { refusal = 0; set = 0; x = ofBits binary64 0x3fc49a166e33b007; y = plusZero; z = limit }
+  pub cellular-colour : cellularAnswer listed 0 (inksOf 200 90 140) sets ≡ record { refusal = 0; set = 0; x = ofBits binary64 0x4008c118de5ab279; y = plusZero; z = limit }
   -- rule 12.15's bill, and no window
   pub billed : chargeLaid (charged (flat 1000000) tint) ≡ record { refusal = 0; cents = 105 }
   pub unbilled : chargeLaid (charged (flat 1000000) []) ≡ record { refusal = 13; cents = 0 }

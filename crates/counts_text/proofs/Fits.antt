@@ -9,7 +9,6 @@ use native.Mathlib.Omega.{arith}
 use lib.Dec.{eqb, leb, ltb, lit≤}
 use lib.ListN.{length, getD, drop}
 use borrow.Author.Tests.{lt-ltb, le-leb, eq-eqb, ne-eqb, ltb-true, ltb-false, eqb-true, not-false}
-use Rattle.arith.specs.Sum.{sumBelow}
 use Rattle.arith.specs.Run.{upto}
 use Rattle.arith.proofs.FirstLaws as First
 use Rattle.arith.proofs.RefusalLaws.{unless-none}
@@ -17,8 +16,6 @@ use Rattle.arith.proofs.RunLaws.{upto-length, upto-at}
 use Rattle.screen.specs.declared.Screen.{Screen}
 use Rattle.screen.specs.Screens.{refusalOf, Admitted, slopeAdmitted, cellsAdmitted, subscreensAdmitted, offsetAdmitted}
 use Rattle.screen.proofs.Published.{admitted-words}
-use Rattle.separation.specs.declared.Separation.{Separation}
-use Rattle.separation.specs.declared.Inks.{Inks}
 use Rattle.separation.specs.Laws.{InkValues}
 use Rattle.quantiser.specs.Running.{count}
 use Rattle.quantiser.proofs.Published.{count-within}

@@ -49,7 +49,6 @@ marks =
       held = refl;
       mixed-order = refl;
       mixed-weights = refl;
-      mixed-mean = refl;
       mixed-colour = refl;
       bad-set = refl;
       bad-sets = refl;

@@ -4,7 +4,7 @@
 -- Assumes nothing.
 use Prim.Native.Nat.{ℕ, zero, suc, _+_, _-_, _*_, _/_, _%_, _^_, _≤_, _<_, _∣_}
 use mathlib.Core.Path.{_≡_, refl, sym, ap, _∙_}
-use mathlib.Core.Bool.{Bool, true, false, cond, _&&_}
+use mathlib.Core.Bool.{Bool, true, false, cond}
 use mathlib.Core.List.{List}
 use native.Mathlib.Nat.{zero-lt-suc, mul-div-cancel-left, dvd-mul-right, mul-le-mul}
 use native.Mathlib.Numerals.{add-one}
@@ -13,14 +13,14 @@ use native.Mathlib.Omega.{arith}
 use lib.Dec.{eqb, leb, ltb}
 use lib.ListN.{getD}
 use lib.Pow.{pow-pos}
-use borrow.Author.Tests.{lt-ltb, le-ltb, le-leb, lt-leb, ne-eqb}
-use Rattle.arith.specs.Order.{ahead, placeAmong, ordered}
+use borrow.Author.Tests.{lt-ltb, le-ltb, le-leb, lt-leb}
+use Rattle.arith.specs.Order.{placeAmong}
 use Rattle.arith.specs.Run.{upto}
 use Rattle.arith.specs.Sum.{sumBelow, indicator}
 use Rattle.arith.proofs.BinaryLaws.{digits-below, digit-of}
 use Rattle.arith.proofs.OrderLaws.{place-below, ordered-below, ordered-place, place-ordered, order-falls, order-sum, order-same}
 use Rattle.arith.proofs.RunLaws.{upto-at}
-use Rattle.arith.proofs.SumLaws.{sum-same, sum-constant, sum-term, sum-front, steps-from, steps-counted}
+use Rattle.arith.proofs.SumLaws.{sum-same, sum-term, sum-front, steps-from, steps-counted}
 use Rattle.arith.proofs.TallyLaws.{indicator-le}
 use Rattle.predict.specs.Cellular.{holds, orderOf, fallingCount, weightAt, setAlong, setAt, Ordering}
 use Rattle.predict.specs.Laws.{heldBy}
@@ -42,6 +42,10 @@ module _ (c : ℕ → ℕ) where
       go : Dec (suc k < 8) → fallingCount c (suc k) ≤ fallingCount c k
       go (yes l) = omega (arith, falling-at k (omega arith), falling-at (suc k) l, order-falls 8 c .falls k l)
       go (no l) = omega (arith, falling-ninth (suc k) (omega arith))
+
+  falls-from : (k : ℕ) → fallingCount c k ≤ fallingCount c 0
+  falls-from zero = omega arith
+  falls-from (suc k) = omega (arith, falls-from k, falls k)
 
   falling-limit : (m : ℕ) → ((j : ℕ) → j < 8 → c j ≤ m) → (k : ℕ) → fallingCount c k ≤ m
   falling-limit m most k = go (decLt k 8)
@@ -155,20 +159,24 @@ module _ (c : ℕ → ℕ) where
 
   module _ (n h : ℕ) (some : 0 < n) (l : h < 8) (all : c h ≡ n) (none : (k : ℕ) → k < 8 → (k ≡ h → ⊥) → c k ≡ 0) where
     -- it stands first,
-    alone-place : placeAmong 8 c h ≡ 0
-    unfolding placeAmong ahead
-    alone-place = sum-constant 8 0 _ (λ i m. ap indicator (go i (none i m) (ℕ-discrete i h)))
-      where
-        go : (i : ℕ) → ((i ≡ h → ⊥) → c i ≡ 0) → Dec (i ≡ h) → ahead (c i) i (c h) h ≡ false
-        go i zero-of (yes e) = rw (e, le-ltb (c h) (c h) (omega arith), le-ltb h h (omega arith)) (and-false (eqb (c h) (c h)))
-          where
-            and-false : (b : Bool) → (b && false) ≡ false
-            and-false true = refl
-            and-false false = refl
-        go i zero-of (no e) = let z = zero-of e in rw (le-ltb (c h) (c i) (omega arith), ne-eqb (c i) (c h) (λ q. omega arith))
-
     alone-first : orderOf c 0 ≡ h
-    alone-first = ap (orderOf c) (sym alone-place) ∙ place-ordered 8 c h l
+    alone-first = go (ℕ-discrete (orderOf c 0) h)
+      where
+        go : Dec (orderOf c 0 ≡ h) → orderOf c 0 ≡ h
+        go (yes e) = e
+        go (no e) =
+            absurd
+            (omega (
+              arith,
+              none (orderOf c 0) (ordered-below 8 c 0 (omega arith)) e,
+              falling-at 0 (omega arith),
+              falls-from (placeAmong 8 c h),
+              falling-at (placeAmong 8 c h) (place-below 8 c h l),
+              ap c (place-ordered 8 c h l),
+            ))
+
+    alone-place : placeAmong 8 c h ≡ 0
+    alone-place = ap (placeAmong 8 c) (sym alone-first) ∙ ordered-place 8 c 0 (omega arith)
 
     alone-falling : fallingCount c 0 ≡ n
     alone-falling = falling-at 0 (omega arith) ∙ ap c alone-first ∙ all

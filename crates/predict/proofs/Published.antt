@@ -1,10 +1,8 @@
 -- The laws of specs/Laws.antt, proved.
 -- Assumes nothing.
-use Prim.Native.Nat.{ℕ, _^_}
-use mathlib.Core.Path.{_≡_, sym, ap, _∙_}
+use mathlib.Core.Path.{sym, ap, _∙_}
 use native.Mathlib.Nat.{le-of-eq}
 use native.Mathlib.Omega.{arith}
-use lib.Ieee.{Float}
 use Rattle.arith.proofs.SumLaws.{sum-alone}
 use Rattle.screen.proofs.Published.{admitted-words}
 use Rattle.quantiser.specs.Running.{count}

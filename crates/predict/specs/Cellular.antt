@@ -19,8 +19,8 @@ use Rattle.quantiser.specs.Running.{count}
 use Rattle.predict.specs.declared.Xyz.{Xyz}
 use Rattle.predict.specs.declared.cellular.Cellular.{Cellular}
 use Rattle.predict.specs.declared.cellular.Cellular.the-variants.{Colour, BadSet, Refused}
-use Rattle.predict.specs.Predicted.{plusZero, tripleAt, admitted, meanOf}
-use Rattle.predict.specs.Numbered.{Numbered, told}
+use Rattle.predict.specs.Predicted.{tripleAt, admitted, meanOf}
+use Rattle.predict.specs.Numbered.{Numbered, coloured, refusedAs, told}
 
 -- ---- rule 16.2: sets of colorants, and the primaries of each
 
@@ -57,11 +57,6 @@ setAlong order k = sumBelow (suc k) (λ i. 2 ^ order i)
 abbrev pub setAt : (ℕ → ℕ) → ℕ → ℕ
 setAt c = setAlong (orderOf c)
 
--- what is known of an order while its sets are formed: it has colorants, and no set is above 255
-pub record Ordering (order : ℕ → ℕ) : Type 0 where
-  pub colorants : (k : ℕ) → k < 8 → order k < 8
-  pub sets : (k : ℕ) → k < 8 → setAlong order k ≤ 255
-
 -- ---- rule 16.5: the mean, by weights and the records of their sets
 
 abbrev pub cellularMean : (ℕ → ℕ) → ℕ → List Float → Xyz
@@ -84,11 +79,11 @@ cellular s sep inks values =
     (Refused 14))
     (Refused (refusalOf s))
 
--- the numbers and values for each case of the answer
+-- each case of the answer in numbers
 abbrev pub numberedOf : Cellular → Numbered
-numberedOf (Colour x y z) = record { refusal = 0; carried = 0; x = x; y = y; z = z }
-numberedOf (BadSet t) = record { refusal = 11; carried = t; x = plusZero; y = plusZero; z = plusZero }
-numberedOf (Refused number) = record { refusal = number; carried = 0; x = plusZero; y = plusZero; z = plusZero }
+numberedOf (Colour x y z) = coloured x y z
+numberedOf (BadSet t) = refusedAs 11 t
+numberedOf (Refused number) = refusedAs number 0
 
 -- rules 11.4, 11.15 and 11.18: 14, after 1 to 4, and then 11
 unfoldable pub runRefusal : Screen → List Float → ℕ
@@ -102,3 +97,10 @@ unfoldable pub ruled : Screen → Separation → Inks → List Float → Numbere
 ruled s sep inks values =
     told (cellularRefusal s values) (answered (runRefusal s values) (cond (ltb (firstBadSet values) 256) (firstBadSet values) 0))
     (cellularMean (count s sep inks) (s .n) values)
+
+-- ---- between the order and its sets
+
+-- what is known of an order while its sets are formed: it has colorants, and no set is above 255
+pub record Ordering (order : ℕ → ℕ) : Type 0 where
+  pub colorants : (k : ℕ) → k < 8 → order k < 8
+  pub sets : (k : ℕ) → k < 8 → setAlong order k ≤ 255

@@ -56,7 +56,7 @@ SetsNumbered = (c : ℕ → ℕ) (k : ℕ) → k < 8 → (1 ≤ setAt c k) × (s
 abbrev pub SetsHold : Type 0
 SetsHold = (c : ℕ → ℕ) (k i : ℕ) → k < 8 → i < 8 → holds (setAt c k) (orderOf c i) ≡ leb i k
 
--- rule 16.6: the weights add up to N,
+-- rule 16.6: the sum of the weights is N,
 abbrev pub WeightsAddUp : Type 0
 WeightsAddUp = Always (λ s sep inks. sumBelow 8 (weightAt (count s sep inks)) ≡ s .n)
 

@@ -20,7 +20,7 @@ use Rattle.predict.specs.declared.Prediction.the-variants.{Colour, BadPr
 use Rattle.predict.specs.declared.cellular.Cellular.the-variants as Cellular
 use Rattle.predict.specs.Predicted.{plusZero, limit, primary, within, total, channel, predicted}
 use Rattle.predict.specs.Numbered.{numberedOf, ruled}
-use Rattle.predict.specs.Cellular.{holds, orderOf, weightAt, setAt, cellularMean, cellular}
+use Rattle.predict.specs.Cellular.{holds, orderOf, weightAt, setAt, cellular}
 use Rattle.predict.specs.Cellular as Cells
 use Rattle.predict.specs.Laws.{AllAdmitted, FullTone, minusZero, SetsNumbered, SetsHold, WeightsAddUp, WeightsDivide, heldBy, HeldAddUp, AllSetsAdmitted, CellularFullTone}
 
@@ -64,9 +64,11 @@ unfoldable pub records : ℕ → Xyz → List Float → List Float
 records zero p rest = rest
 records (suc n) p rest = p .x ∷ p .y ∷ p .z ∷ records n p rest
 
--- rule 12.17's run: the record of all eight colorants has 0.3
+-- rule 12.17's run: X is 4.1, and 0.8 for the set of all eight colorants
 abbrev pub sets : List Float
-sets = records 254 ink (ofBits binary64 0x3fd3333333333333 ∷ minusZero ∷ limit ∷ [])
+sets =
+    let tone : ℕ → Xyz = λ bits. record { x = ofBits binary64 bits; y = minusZero; z = limit } in
+    records 254 (tone 0x4010666666666666) (records 1 (tone 0x3fe999999999999a) [])
 
 -- cyan's own set has a NaN; magenta's, and the set of all
 abbrev pub cyanUnset : List Float
@@ -99,7 +101,7 @@ pub record Marks : Type 0 where
   -- a sum begun at -0 would stay there
   pub begun : total 1 (λ j. 26) (λ j. minusZero) ≡ plusZero
   -- rule 12.10, counts 26, 26, 0, 27, 0, 0, 0, 26: from the last colorant on it would end in 39, divided before the sum in 3a
-  pub uneven-x : channel (λ j. getD (26 ∷ 26 ∷ 0 ∷ 27 ∷ 0 ∷ 0 ∷ 0 ∷ 26 ∷ []) j 0) 105 (λ j. primary primaries j .x) ≡ ofBits binary64 0x3fbff0656cbd323b
+  pub uneven-x : channel counted 105 (λ j. primary primaries j .x) ≡ ofBits binary64 0x3fbff0656cbd323b
   pub uneven : predicted listed Demichel half primaries ≡ Colour (ofBits binary64 0x3fbff0656cbd323b) plusZero limit
   pub full-tone : predicted listed Kueppers cyan primaries ≡ Colour tenth plusZero limit
   pub bad-primary : predicted listed Kueppers cyan magentaUnset ≡ BadPrimary 1
@@ -117,9 +119,8 @@ pub record Marks : Type 0 where
   -- rule 12.17, where each of the eight has cells
   pub mixed-order : upto (orderOf mixed) 8 ≡ 4 ∷ 0 ∷ 6 ∷ 3 ∷ 2 ∷ 7 ∷ 1 ∷ 5 ∷ []
   pub mixed-weights : upto (weightAt mixed) 8 ≡ 5 ∷ 16 ∷ 9 ∷ 20 ∷ 5 ∷ 18 ∷ 0 ∷ 32 ∷ []
-  -- from the eighth set on it would end in 09, divided before the sum in 08
-  pub mixed-mean : cellularMean mixed 105 sets ≡ record { x = ofBits binary64 0x3fc49a166e33b007; y = plusZero; z = limit }
-  pub mixed-colour : cellular listed Demichel (inksOf 200 90 140) sets ≡ Cellular.Colour (ofBits binary64 0x3fc49a166e33b007) plusZero limit
+  -- from the eighth set on it would end in 77, divided before the sum in 78
+  pub mixed-colour : cellular listed Demichel (inksOf 200 90 140) sets ≡ Cellular.Colour (ofBits binary64 0x4008c118de5ab279) plusZero limit
   -- rule 16.8: sets without weight are judged too, the lowest bad one is told, and lengths come before values
   pub bad-set : cellular listed Demichel half cyanUnset ≡ Cellular.BadSet 1
   pub bad-sets : cellular listed Demichel half twoUnset ≡ Cellular.BadSet 2

@@ -24,11 +24,18 @@ pub record Numbered : Type 0 where
   pub y : Float
   pub z : Float
 
--- the numbers and values for each case of the answer
+-- a colour, and a refusal with what it carries
+abbrev pub coloured : Float → Float → Float → Numbered
+coloured x y z = record { refusal = 0; carried = 0; x = x; y = y; z = z }
+
+abbrev pub refusedAs : ℕ → ℕ → Numbered
+refusedAs refusal carried = record { refusal = refusal; carried = carried; x = plusZero; y = plusZero; z = plusZero }
+
+-- each case of the answer in numbers
 abbrev pub numberedOf : Prediction → Numbered
-numberedOf (Colour x y z) = record { refusal = 0; carried = 0; x = x; y = y; z = z }
-numberedOf (BadPrimary j) = record { refusal = 11; carried = j; x = plusZero; y = plusZero; z = plusZero }
-numberedOf (BadScreen number) = record { refusal = number; carried = 0; x = plusZero; y = plusZero; z = plusZero }
+numberedOf (Colour x y z) = coloured x y z
+numberedOf (BadPrimary j) = refusedAs 11 j
+numberedOf (BadScreen number) = refusedAs number 0
 
 -- rules 11.4 and 11.15: 11, after 1 to 4
 unfoldable pub predictRefusal : Screen → List Xyz → ℕ

@@ -40,10 +40,6 @@ admitted p = within (p .x) && within (p .y) && within (p .z)
 unfoldable pub firstBad : List Xyz → ℕ
 firstBad ps = firstBelow 8 (λ j. not (admitted (primary ps j)))
 
--- rules 14.4 and 16.2: record number i, from 0, of a run of values, three a record. The NaNs stand for values that no call has.
-abbrev pub tripleAt : List Float → ℕ → Xyz
-tripleAt values i = record { x = getD values (3 * i) nan; y = getD values (3 * i + 1) nan; z = getD values (3 * i + 2) nan }
-
 -- rule 9.3: a sum with one more product added
 abbrev pub more : Float → ℕ → Float → Float
 more sum c v = add binary64 sum (mul binary64 (ofInt binary64 (pos c)) v)
@@ -73,3 +69,9 @@ predicted s sep inks ps =
     cond (eqb (refusalOf s) 0)
     (cond (ltb (firstBad ps) 8) (BadPrimary (firstBad ps)) (colourOf (meanOf (count s sep inks) (s .n) (primary ps))))
     (BadScreen (refusalOf s))
+
+-- ---- runs of values
+
+-- rules 14.4 and 16.2: record number i, from 0, of a run of values, three a record. The NaNs stand for values that no call has.
+abbrev pub tripleAt : List Float → ℕ → Xyz
+tripleAt values i = record { x = getD values (3 * i) nan; y = getD values (3 * i + 1) nan; z = getD values (3 * i + 2) nan }

@@ -4,7 +4,7 @@ ghost use Prim.Native.Nat.{ℕ, _^_, _≤_, _<_};
 ghost use lib.ListN.{length, getD};
 ghost use Rattle.arith.specs.Order.{ordered};
 ghost use Rattle.arith.specs.Run.{upto};
-ghost use Rattle.predict.specs.Predicted.{primary, tripleAt};
+ghost use Rattle.predict.specs.Predicted.{primary};
 ghost use Rattle.predict.specs.Cellular.{valuesDue, recordOf, fallingCount, weightAt, setAlong, Ordering, cellularMean, firstBadSet, cellular, numberedOf, ruled};
 use crate::Xyz;
 use crate::is_admitted;

@@ -60,7 +60,7 @@ fn first_bad(primaries: [Xyz; 8]) -> u32
     8
 }
 
-// Whether a primary's three values are.
+// Whether all three values of a primary are admitted.
 fn is_admitted(p: Xyz) -> bool
     ensures { λ r. ⌜ r ≡ admitted p ⌝ }
 {

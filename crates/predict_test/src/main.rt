@@ -1,6 +1,6 @@
 // Prints what `predict` and `predict_cellular` answer, their values as the 16 hexadecimal digits of their
 // bits. Of both: full tones, negative zeros, values that do not add up exactly, good and bad values beside
-// the limits, bad screens, and mixed cases. Of the second also: counts in every order, equal counts, and runs
+// the limits, bad screens, and mixed cases. Of the second also: ink values in every order, equal counts, and runs
 // of the right length and of others. The file stdout holds what this must print.
 ghost use Prim.Native.Nat.{_<_};
 use predict::Cellular;

@@ -4,7 +4,7 @@
 //! compared whole, guards included, after every call, refused ones too (rule 11.3). A mismatch is shrunk to
 //! the smallest case found and then told in plain words.
 //!
-//! Run by `cargo test --release`; it takes about half a minute.
+//! Run by `cargo test --release`; it takes some ten seconds.
 
 mod bills;
 mod case;

@@ -1,6 +1,6 @@
-//! Cellular prediction: the worked weights and colours (rule 12.16), the examples of refusals and their order
-//! (rules 11.18 and 16.8), the order of colorants (rule 16.3), what weights add up to (rule 16.6), and full
-//! tones (rule 16.7).
+//! Cellular prediction: the worked weights and colour (rules 12.16 and 12.17), the examples of refusals and
+//! their order (rules 11.18 and 16.8), the order of colorants (rule 16.3), what weights add up to (rule 16.6),
+//! and full tones (rule 16.7).
 
 use super::{draw, DEMICHEL, KUEPPERS};
 use crate::subject::{counts_of, predict, predict_cellular};
@@ -128,9 +128,10 @@ fn sets_8_and_139_have_the_worked_weights() {
     assert_eq!(weights_shown(SCREEN, KUEPPERS, INKS), [(8, 1), (136, 104)]);
 }
 
-/// Rules 12.16 and 16.5: 1 × 0.1 and 104 × 0.2, added and divided by 105. Sets without weight have X = 7.
+/// Rule 16.5 with the sets of rule 12.16: 1 × 0.1 and 104 × 0.2, added and divided by 105. Sets without weight
+/// have X = 7.
 #[test]
-fn a_colour_has_the_worked_bits() {
+fn a_colour_of_two_sets() {
     let mut primaries = [7.0, -0.0, 200.0].repeat(255);
     put(&mut primaries, 8, [0.1, -0.0, 200.0]);
     put(&mut primaries, 139, [0.2, -0.0, 200.0]);
@@ -138,21 +139,19 @@ fn a_colour_has_the_worked_bits() {
     assert_eq!(found.map(f64::to_bits), [0x3FC9_7A64_7313_FE0D, 0, 200.0f64.to_bits()]);
 }
 
-/// Rules 16.3 to 16.5: all colorants have cells, cyan as many as red. Other bits come out where the products
-/// are added from the last set on or in pairs, where they are fused, and where weights are divided first.
+/// Rule 12.17: all colorants have cells, magenta as many as red.
 #[test]
-fn a_colour_of_seven_sets_has_the_worked_bits() {
-    let inks = [90, 100, 120];
+fn a_colour_has_the_worked_bits() {
+    let inks = [200, 90, 140];
     let counts = counts_of(SCREEN, DEMICHEL, inks).of;
-    assert_eq!(counts, [12, 14, 19, 8, 11, 12, 7, 22]);
+    assert_eq!(counts, [24, 4, 8, 13, 29, 4, 16, 7]);
     let order = colorant_order(counts);
-    assert_eq!(order, [7, 2, 1, 0, 5, 4, 3, 6]);
-    assert_eq!(set_weights(counts, order), [3, 10, 6, 0, 5, 18, 7, 56]);
-    assert_eq!(colorant_sets(order), [128, 132, 134, 135, 167, 183, 191, 255]);
-    let primaries: Vec<f64> = (0..765).map(|place| f64::from(place) / 7.0).collect();
+    assert_eq!(order, [4, 0, 6, 3, 2, 7, 1, 5]);
+    assert_eq!(set_weights(counts, order), [5, 16, 9, 20, 5, 18, 0, 32]);
+    let mut primaries = [4.1, -0.0, 200.0].repeat(255);
+    put(&mut primaries, 255, [0.8, -0.0, 200.0]);
     let found = colour(SCREEN, DEMICHEL, inks, &primaries);
-    let expected = [0x4056_99DC_7935_4A31, 0x4056_A301_0B7E_6EC3, 0x4056_AC25_9DC7_9355];
-    assert_eq!(found.map(f64::to_bits), expected);
+    assert_eq!(found.map(f64::to_bits), [0x4008_C118_DE5A_B279, 0, 200.0f64.to_bits()]);
 }
 
 /// Rules 11.15, 11.18 and 16.8: lengths, values, and what comes first.

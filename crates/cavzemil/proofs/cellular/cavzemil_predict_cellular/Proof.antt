@@ -14,18 +14,18 @@ use Rattle.cavzemil.specs.declared.screens.Screen.{Screen}
 use Rattle.cavzemil.specs.declared.cellular.Cellular.{Cellular}
 use Rattle.cavzemil.specs.Separations.{known, separationOf}
 use Rattle.cavzemil.specs.Screens.{screenOf}
-use Rattle.cavzemil.specs.Cellular.{cellularLaid, uncoloured, cellularAnswer}
+use Rattle.cavzemil.specs.Cellular.{cellularLaid, uncoloured, cellularGiven, cellularAnswer}
 use Rattle.cavzemil.proofs.cellular.cavzemil_predict_cellular.Statement.{statement}
 use Rattle.cavzemil.proofs.cellular.cavzemil_predict_cellular.Tie as tie
 
 module _ (s : Screen) (separation : ℕ) (inks : Inks) (values : List Float) where
   unknown : {v : Cellular} → known separation ≡ false → v ≡ uncoloured 100 0 → v ≡ cellularAnswer s separation inks values
-  unfolding cellularAnswer
+  unfolding cellularGiven
   unknown e q = q ∙ rw e
 
   answered : {v : Cellular} {p : Numbered} → known separation ≡ true → v ≡ cellularLaid p → p ≡ ruled (screenOf s) (separationOf separation) inks values
       → v ≡ cellularAnswer s separation inks values
-  unfolding cellularAnswer
+  unfolding cellularGiven
   answered e q f = q ∙ ap cellularLaid f ∙ rw e
 
 is-known-requires : tie.Need-is-known-requires

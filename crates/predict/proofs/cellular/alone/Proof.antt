@@ -1,5 +1,4 @@
 -- `predict::cellular::alone` meets its contract: nothing is shifted out. Assumes nothing.
-use Prim.Native.Nat.{_*_, _^_}
 use mathlib.Core.Path.{_∙_}
 use native.Mathlib.Nat.{one-mul}
 use native.Mathlib.Omega.{arith}

@@ -1,6 +1,5 @@
 -- `predict::cellular::mean_of_sets` meets its contract: weights and records are those of the order. Assumes nothing.
 use mathlib.Core.Path.{ap, _∙_}
-use native.Mathlib.Omega.{arith}
 use borrow.Author.Needs.{needs}
 use Rattle.arith.proofs.RunLaws.{upto-at}
 use Rattle.predict.specs.Cellular.{recordOf}
