@@ -25,7 +25,7 @@ returns-3 : tie.Need-returns-3
 returns-3 c =
     let long = c .before .before in
     let counts = long .before .before .before in
-    promised _ _ _ _ _ (set-refused _ _ _ _ _ (counts .counts .ensures) (long .before .if1 .left) (long .if2 .left) _ (c .before .first-bad-set .ensures) (c .if3 .taken))
+    promised _ _ _ _ _ (set-refused _ _ _ _ _ (counts .counts .ensures) (long .before .if1 .left) (long .if2 .left) _ (c .before .first-bad-set .ensures) (omega arith))
 
 mean-of-sets-requires : tie.Need-mean-of-sets-requires
 mean-of-sets-requires c κs =
@@ -41,7 +41,7 @@ returns-4 c =
     let long = tested .before .before in
     let counts = long .before .before .before in
     promised _ _ _ _ _
-    (colour-answered _ _ _ _ _ (counts .counts .ensures) (long .before .if1 .left) (long .if2 .left) _ (tested .before .first-bad-set .ensures) (tested .if3 .left) _ (c .mean-of-sets .ensures))
+    (colour-answered _ _ _ _ _ (counts .counts .ensures) (long .before .if1 .left) (long .if2 .left) _ (tested .before .first-bad-set .ensures) (omega arith) _ (c .mean-of-sets .ensures))
 
 pub predict-cellular-spec : {M : Type 1} → statement M
 predict-cellular-spec =
