@@ -7,9 +7,9 @@
  * cavzemil_predict and cavzemil_predict_cellular ask for IEEE 754's default mode: to nearest, subnormal numbers
  * kept (rule 14.2).
  *
- * Refusals (rules 11.1 to 11.18). Each answer has a refusal, 0 where there is none; else it is the lowest number
- * that applies, every other number in the answer is 0 (refusal 11 carries its colorant or set), and lent memory
- * stays as it was.
+ * Refusals (rules 11.1 to 11.19). Each answer has a refusal, 0 where there is none; else it is the first of the
+ * call's list that applies, every other number in the answer is 0 (but refusal 11 carries its colorant or set, and a
+ * replacement hands back the screen that it got), and lent memory stays as it was.
  *
  *     1  the slope: it needs 1 <= a < b <= 64, and no common divisor of a and b above 1
  *     2  the cell count n: it needs 1 to 4096
@@ -24,9 +24,10 @@
  *    12  a price is above 1000000
  *    13  the windows of a job: it needs 1 to 1000, and in each the sum of the eight tallies at most 4294967296
  *    14  for cavzemil_predict_cellular, in place of 6: its run has not 765 values; tested before 11 (rule 16.8)
+ *    15  the columns, rows or shift that the screen stores are not those of its brick; tested after 4 (rule 11.2)
  *   100  the separation is neither 0 nor 1; tested before all else (rule 14.3)
  *
- * (10 belongs to the program counts alone.) 1 to 4 are tested wherever a screen is handed in.
+ * (10 belongs to the program counts alone.) 1 to 4 and 15 are tested wherever a screen is handed in.
  */
 #ifndef CAVZEMIL_H
 #define CAVZEMIL_H
@@ -53,8 +54,12 @@ enum {
     CAVZEMIL_WHITE = 7
 };
 
-/* A screen (rules 1.1 to 1.6): slope a/b, n cells, k subscreens, offset g. */
-typedef struct { uint32_t a, b, n, k, g; } cavzemil_screen;
+/* A screen (rules 1.1 to 1.6): slope a/b, n cells, k subscreens, offset g; and the columns, rows and shift of its
+   brick, as cavzemil_make_screen stores them (rule 17.1). */
+typedef struct { uint32_t a, b, n, k, g, columns, rows, shift; } cavzemil_screen;
+
+/* A screen that was made, or the one that a replacement hands back. */
+typedef struct { uint32_t refusal; cavzemil_screen screen; } cavzemil_made;
 
 /* A window (rule 7.1) of the sheet of 65536 columns, from the left, and 65536 rows, from the top: its first
    column and row, and how many of each, which may be 0. */
@@ -91,32 +96,47 @@ typedef struct { uint32_t refusal; uint64_t cents; } cavzemil_charge;
    order, they have in them. Two houses whose numbers are the same follow the same rules. */
 uint32_t cavzemil_rules(void);
 
-/* The phase of column x and row y (rules 2.2 and 2.4): (a x - b y - g) mod n, 0 to n - 1. Refusals 1 to 5. */
+/* Makes the screen of five numbers, which stores its brick (rule 17.2); refused, a screen of eight zeros.
+   Refusals 1 to 4. */
+cavzemil_made cavzemil_make_screen(uint32_t a, uint32_t b, uint32_t n, uint32_t k, uint32_t g);
+
+/* Replaces the offset of a screen, and nothing else (rules 17.3 to 17.6). A refused replacement hands back all eight
+   numbers as it got them, so that what comes of a made screen stays admitted, whatever is replaced. Refusals 1 to 4
+   and 15 of the screen that is handed in, then 1 to 4 of the new one. */
+cavzemil_made cavzemil_replace_offset(cavzemil_screen s, uint32_t g);
+
+/* Replaces the number of subscreens, and nothing else, like cavzemil_replace_offset. Refusals as there. */
+cavzemil_made cavzemil_replace_subscreens(cavzemil_screen s, uint32_t k);
+
+/* Replaces the cell count, like cavzemil_replace_offset; the brick that is stored follows it. Refusals as there. */
+cavzemil_made cavzemil_replace_cells(cavzemil_screen s, uint32_t n);
+
+/* The phase of column x and row y (rules 2.2 and 2.4): (a x - b y - g) mod n, 0 to n - 1. Refusals 1 to 4, 15, 5. */
 cavzemil_place cavzemil_phase_at(cavzemil_screen s, uint32_t x, uint32_t y);
 
-/* The brick's sizes (rule 3.5); its columns times its rows are n. Refusals 1 to 4. */
+/* The brick's sizes as the screen stores them (rule 3.5); its columns times its rows are n. Refusals 1 to 4, 15. */
 cavzemil_brick cavzemil_brick_of(cavzemil_screen s);
 
 /* Fills the first n places of a brick buffer (rules 3.6 and 3.7): place v * columns + u gets the phase of
-   (u, v). Places from n on stay as they are. Answers the refusal: 1 to 4, 8. */
+   (u, v). Places from n on stay as they are. Answers the refusal: 1 to 4, 15, 8. */
 uint32_t cavzemil_fill_brick(cavzemil_screen s, uint16_t *brick, size_t brick_len);
 
 /* How many of n cells each colorant gets for the ink values c, m, y, 255 being full (rules 5.4 and 5.5).
-   Refusals 100, 1 to 4. */
+   Refusals 100, 1 to 4, 15. */
 cavzemil_counts cavzemil_counts_of(cavzemil_screen s, uint32_t separation, uint8_t c, uint8_t m, uint8_t y);
 
-/* The colorant of column x and row y for these ink values (rule 7.8). Refusals 100, 1 to 5. */
+/* The colorant of column x and row y for these ink values (rule 7.8). Refusals 100, 1 to 4, 15, 5. */
 cavzemil_cell cavzemil_cell_at(cavzemil_screen s, uint32_t separation, uint32_t x, uint32_t y,
                                uint8_t c, uint8_t m, uint8_t yellow);
 
 /* Renders a window, phases worked out (rules 7.2 to 7.5): the input has 3 * columns * rows bytes, those of c,
    m and y for each pixel, by rows; the output gets columns * rows bytes, a colorant each. Refusals 100,
-   1 to 7. */
+   1 to 4, 15, 5, 6, 7. */
 cavzemil_rendering cavzemil_render(cavzemil_screen s, uint32_t separation, cavzemil_window w,
                                    const uint8_t *input, size_t input_len, uint8_t *out, size_t out_len);
 
 /* Renders a window like cavzemil_render, phases read from a brick buffer that cavzemil_fill_brick filled
-   (rule 7.6); it may be longer than n. Refusals 100, 1 to 8. */
+   (rule 7.6); it may be longer than n. Refusals 100, 1 to 4, 15, 5, 6, 7, 8. */
 cavzemil_rendering cavzemil_render_brick(cavzemil_screen s, uint32_t separation, cavzemil_window w,
                                          const uint8_t *input, size_t input_len,
                                          const uint16_t *brick, size_t brick_len,
@@ -136,7 +156,7 @@ uint32_t cavzemil_unpack(uint32_t columns, uint32_t rows, const uint8_t *planes,
 
 /* The colour of a patch of these ink values (rules 9.1 to 9.5): the mean of eight primaries, weighed by the
    counts. The primaries are 24 values, X, Y, Z of each colorant in turn, each 0 to 200; another length is
-   refused as 6 (rule 14.4). Refusals 100, 1 to 4, 6, 11. */
+   refused as 6 (rule 14.4). Refusals 100, 1 to 4, 15, 6, 11. */
 cavzemil_prediction cavzemil_predict(cavzemil_screen s, uint32_t separation, uint8_t c, uint8_t m, uint8_t y,
                                      const double *primaries, size_t primaries_len);
 
@@ -145,7 +165,7 @@ cavzemil_prediction cavzemil_predict(cavzemil_screen s, uint32_t separation, uin
    by falling counts and at equal counts the lower number first; the k-th weighs k times what the k-th count has
    more than the next, or than 0 where there is none. A set's number, 1 to 255, is the sum of 1 << j over its
    colorants j. The primaries are 765 values, X, Y, Z of each set in turn from 1 on, each 0 to 200, also where the
-   set has no weight; another length is refused as 14. Refusals 100, 1 to 4, 14, 11. */
+   set has no weight; another length is refused as 14. Refusals 100, 1 to 4, 15, 14, 11. */
 cavzemil_cellular cavzemil_predict_cellular(cavzemil_screen s, uint32_t separation, uint8_t c, uint8_t m,
                                             uint8_t y, const double *primaries, size_t primaries_len);
 

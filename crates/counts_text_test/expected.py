@@ -5,7 +5,7 @@
 
 import re
 
-from rules import SEPARATIONS, counts, refusal
+from rules import SEPARATIONS, counts, made
 from texts import TEXTS, whole
 
 # up to five digits, of which 0 alone begins with a 0
@@ -21,9 +21,10 @@ def numbers_in(fields, many, most):
 
 
 def screen_in(line):
-    """The screen of a line, or None."""
+    """The refusal of a line's screen and the screen made (rule 10.6), or None."""
     fields = line.split("\t")
-    return numbers_in(fields[1:], 5, 99999) if fields[0] == "S" else None
+    found = numbers_in(fields[1:], 5, 99999)
+    return made(*found) if found and fields[0] == "S" else None
 
 
 def patch_in(line):
@@ -36,7 +37,7 @@ def patch_in(line):
 def line_refusal(number, line):
     if number == 1:
         screen = screen_in(line)
-        return refusal(screen) if screen else 10
+        return screen[0] if screen else 10
     return 0 if number <= 257 and patch_in(line) else 10
 
 
@@ -54,8 +55,9 @@ def answer(text):
             return line_of("E", (number, refused))
     if unended or len(lines) < 2:
         return line_of("E", (len(lines) + 1, 10))
-    screen, *patches = lines
-    return "".join(line_of("C", counts(screen_in(screen), *patch_in(line))) for line in patches)
+    first, *patches = lines
+    _, screen = screen_in(first)
+    return "".join(line_of("C", counts(screen, *patch_in(line))) for line in patches)
 
 
 for heading, texts in TEXTS.items():

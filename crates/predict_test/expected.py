@@ -5,12 +5,12 @@
 
 import struct
 
-from rules import SEPARATIONS, TOP, admitted, cellular, counts, drawn, mean, numbers, record_of, refusal
-from rules import set_number, weighed_sets
+from rules import SEPARATIONS, TOP, Screen, admitted, cellular, counts, drawn, five, mean, numbers, record_of, refusal
+from rules import screen_of, set_number, stored, weighed_sets
 
-LISTED = 4, 7, 105, 2, 0
-ONE = 1, 2, 1, 1, 0
-MOST = 63, 64, 4096, 16, 4095
+LISTED = screen_of(4, 7, 105, 2, 0)
+ONE = screen_of(1, 2, 1, 1, 0)
+MOST = screen_of(63, 64, 4096, 16, 4095)
 CYAN, WHITE = (255, 0, 0), (0, 0, 0)
 FULL = CYAN, (0, 255, 0), (0, 0, 255), (255, 255, 0), (255, 0, 255), (0, 255, 255), (255, 255, 255), WHITE
 NAN = float("nan")
@@ -30,6 +30,7 @@ WHOLE_SETS = [
 ]
 UNEVEN_SETS = [n % (20001 if place < 1700 else 20100) / 100 for place, n in zip(range(2048), drawn(0))]
 SMALL_SETS = [place % 7 * 5e-324 for place in range(765)]
+BAD_SETS = [-1.0] + UNEVEN_SETS[1:]
 
 
 def bits(v):
@@ -63,8 +64,8 @@ def answer(s, sep, inks, primaries):
     if bad:
         return f"bad primary {min(bad)}"
     of = counts(s, sep, inks)
-    values = [mean(of, channel, s[2]) for channel in zip(*primaries)]
-    exact(s[2], of, primaries, values)
+    values = [mean(of, channel, s.n) for channel in zip(*primaries)]
+    exact(s.n, of, primaries, values)
     return f"colour {all_bits(values)}"
 
 
@@ -73,13 +74,13 @@ def answer_by_sets(s, sep, inks, run):
     if r:
         return f"bad set {number}" if r == 11 else f"refused {r}"
     of = counts(s, sep, inks)
-    weighed(s[2], of)
-    exact(s[2], of, [record_of(set_number([j]), run) for j in range(8)], values)
+    weighed(s.n, of)
+    exact(s.n, of, [record_of(set_number([j]), run) for j in range(8)], values)
     return f"cellular {all_bits(values)}"
 
 
 def show(name, s, sep, inks, primaries):
-    print(f"{name}, {numbers(s)}, {sep}, {numbers(inks)}: {answer(s, sep, inks, primaries)}")
+    print(f"{name}, {five(s)}, {sep}, {numbers(inks)}: {answer(s, sep, inks, primaries)}")
 
 
 def show_both(name, s, inks, primaries):
@@ -90,7 +91,7 @@ def show_both(name, s, inks, primaries):
 def show_sets(name, s, sep, inks, records, length=765, start=0):
     run = records[start : start + length]
     assert len(run) == length
-    print(f"{name}, {numbers(s)}, {sep}, {numbers(inks)}: {answer_by_sets(s, sep, inks, run)}")
+    print(f"{name}, {five(s)}, {sep}, {numbers(inks)}: {answer_by_sets(s, sep, inks, run)}")
 
 
 def sets_of_both(name, s, inks, records, start=0):
@@ -128,12 +129,22 @@ def with_values(values):
     return [values.get(place, value) for place, value in enumerate(UNEVEN_SETS)]
 
 
+def show_refused(s):
+    """Good and bad values, and runs of right and of wrong length, on a screen that is refused."""
+    show_both("whole", s, CYAN, WHOLE)
+    show("0 x = nan", s, "kueppers", CYAN, with_first(NAN))
+    sets_of_both("uneven", s, CYAN, UNEVEN_SETS)
+    show_length("uneven", s, UNEVEN_SETS, 764)
+    show_length("set 1 x = -1", s, BAD_SETS, 765)
+    show_length("set 1 x = -1", s, BAD_SETS, 766)
+
+
 def mixed_case(start):
     draw = drawn(start)
     a, b, n, k, g, c, m, y = [next(draw) for _ in range(8)]
     primaries = [tuple(next(draw) % 20100 / 100 for _ in "xyz") for _ in range(8)]
     a = a % 12
-    screen, inks = (a, a + b % 2 + 1, n % 4200, k % 18, g % 100), (c % 256, m % 256, y % 256)
+    screen, inks = screen_of(a, a + b % 2 + 1, n % 4200, k % 18, g % 100), (c % 256, m % 256, y % 256)
     show_both("drawn", screen, inks, primaries)
     if start % 2 == 0:
         sets_of_both("drawn", screen, inks, UNEVEN_SETS, y % 1283)
@@ -157,7 +168,7 @@ for screen in LISTED, ONE, MOST:
     show_uneven(screen, CYAN)
     show_uneven(screen, WHITE)
 
-for screen in [LISTED, ONE, (4, 7, 3, 2, 0), (4, 7, 97, 1, 96), (63, 64, 4095, 7, 0), MOST]:
+for screen in [LISTED, ONE, screen_of(4, 7, 3, 2, 0), screen_of(4, 7, 97, 1, 96), screen_of(63, 64, 4095, 7, 0), MOST]:
     for inks in [(128, 128, 0), (51, 102, 204), (200, 90, 140)]:
         show_uneven(screen, inks)
     show_whole(screen, (13, 77, 250))
@@ -166,7 +177,7 @@ for screen in [LISTED, ONE, (4, 7, 3, 2, 0), (4, 7, 97, 1, 96), (63, 64, 4095, 7
 for inks in [(40, 99, 211), (40, 211, 99), (99, 40, 211), (99, 211, 40), (211, 40, 99), (211, 99, 40)]:
     sets_of_both("uneven", LISTED, inks, UNEVEN_SETS)
 
-for screen in [(4, 7, 8, 1, 0), (4, 7, 24, 4, 3)]:
+for screen in [screen_of(4, 7, 8, 1, 0), screen_of(4, 7, 24, 4, 3)]:
     for inks in [(128, 128, 128), (64, 128, 191), (85, 170, 85)]:
         sets_of_both("uneven", screen, inks, UNEVEN_SETS)
 
@@ -190,8 +201,7 @@ for j in range(8):
 for place in [0, 1, 2, 3, 5, 6, 264, 266, 380, 381, 383, 384, 668, 761, 762, 764]:
     show_listed(f"place {place} = nan", with_values({764: -1.0, place: NAN}))
 
-bad = with_values({0: -1.0})
-for name, records in [("uneven", UNEVEN_SETS), ("set 1 x = -1", bad)]:
+for name, records in [("uneven", UNEVEN_SETS), ("set 1 x = -1", BAD_SETS)]:
     for length in [0, 1, 24, 762, 764, 765, 766, 768]:
         show_length(name, LISTED, records, length)
 
@@ -199,12 +209,14 @@ for screen in [
     (4, 8, 105, 2, 0), (0, 7, 105, 2, 0), (63, 65, 105, 2, 0), (4, 7, 0, 1, 0), (4, 7, 4097, 2, 0), (4, 7, TOP, 2, 0),
     (4, 7, 105, 0, 0), (4, 7, 105, 17, 0), (4, 7, 5, 6, 0), (4, 7, 70, 2, 70), (4, 8, 0, 0, 0), (4, 7, 5, 6, 5),
 ]:
-    show_both("whole", screen, CYAN, WHOLE)
-    show("0 x = nan", screen, "kueppers", CYAN, with_first(NAN))
-    sets_of_both("uneven", screen, CYAN, UNEVEN_SETS)
-    show_length("uneven", screen, UNEVEN_SETS, 764)
-    show_length("set 1 x = -1", screen, bad, 765)
-    show_length("set 1 x = -1", screen, bad, 766)
+    show_refused(screen_of(*screen))
 
 for start in range(80):
     mixed_case(start)
+
+for screen in [
+    (4, 7, 105, 2, 0, 106, 1, 28), (4, 7, 105, 2, 0, 105, 2, 28), (4, 7, 105, 2, 0, 105, 1, 133),
+    (4, 7, 105, 17, 0, 105, 1, 133),
+]:
+    print(stored(screen))
+    show_refused(Screen(*screen))

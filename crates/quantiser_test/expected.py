@@ -3,17 +3,17 @@
     PYTHONPATH=scripts python3 -B crates/quantiser_test/expected.py > crates/quantiser_test/stdout
 """
 
-from rules import SEPARATIONS, TOP, cells, colorants, counts, drawn, lent, numbers, refusal, scale, weights
+from rules import SEPARATIONS, TOP, Screen, cells, colorants, counts, drawn, five, lent, numbers, refusal, scale
+from rules import screen_of, stored, weights
 
 
 def thresholds(s):
     """For each phase the least running sum that fills it: q below (C + i) / K rounded down."""
-    _, _, n, k, _ = s
-    return [min(c for c in range(n + 1) if q < (c + i) // k) for i, q in cells(s)]
+    return [min(c for c in range(s.n + 1) if q < (c + i) // s.k) for i, q in cells(s)]
 
 
 def case(s, sep, inks):
-    return f"{numbers(s)}, {sep}, {numbers(inks)}:"
+    return f"{five(s)}, {sep}, {numbers(inks)}:"
 
 
 def show_weights(inks):
@@ -27,7 +27,7 @@ def show_both(s, inks):
 
 
 def show_table(s, places):
-    print(f"{numbers(s)}, {places}: {lent(s, places, 24, thresholds)}")
+    print(f"{five(s)}, {places}: {lent(s, places, 24, thresholds)}")
 
 
 def show_phases(s, inks):
@@ -48,7 +48,8 @@ def mixed(cases, start, cells, offsets):
     for _ in range(cases):
         a, b, n, k, g, c, m, y = [next(draw) for _ in range(8)]
         a = a % 12
-        show_both((a, a + b % 2 + 1, n % cells, k % 18, g % offsets), (c % 256, m % 256, y % 256))
+        screen = screen_of(a, a + b % 2 + 1, n % cells, k % 18, g % offsets)
+        show_both(screen, (c % 256, m % 256, y % 256))
 
 
 print("# c m y: scale, weights by Demichel; scale, weights by Kueppers")
@@ -71,13 +72,19 @@ for screen, inks in [
     ((63, 64, 4096, 16, 4095), (13, 77, 250)), ((63, 64, 4096, 1, 0), (128, 127, 129)),
     ((63, 64, 4095, 7, 0), (1, 254, 128)),
 ]:
-    show_both(screen, inks)
+    show_both(screen_of(*screen), inks)
 for screen in [
     (4, 8, 105, 2, 0), (0, 7, 105, 2, 0), (63, 65, 105, 2, 0), (4, 7, 0, 1, 0), (4, 7, 4097, 2, 0), (4, 7, TOP, 2, 0),
     (4, 7, 105, 0, 0), (4, 7, 105, 17, 0), (4, 7, 5, 6, 0), (4, 7, 70, 2, 70),
     (4, 8, 0, 0, 0), (4, 7, 0, 0, 0), (4, 7, 5, 6, 5),
 ]:
-    show_both(screen, (51, 102, 204))
+    show_both(screen_of(*screen), (51, 102, 204))
+for screen in [
+    (4, 7, 105, 2, 0, 105, 1, 28), (4, 7, 105, 2, 0, 104, 1, 28), (4, 7, 105, 2, 0, 105, 2, 28),
+    (4, 7, 105, 2, 0, 105, 1, 133), (4, 7, 105, 2, 0, 35, 2, 21), (4, 7, 105, 17, 0, 105, 1, 133),
+]:
+    print(stored(screen))
+    show_both(Screen(*screen), (51, 102, 204))
 
 print("# a b n k g, places: refusal; the table, every place 65535 before")
 for screen, places in [
@@ -85,7 +92,13 @@ for screen, places in [
     ((4, 7, 20, 1, 19), 20), ((4, 7, 20, 16, 0), 20), ((4, 7, 16, 16, 0), 20), ((1, 2, 1, 1, 0), 1), ((1, 2, 1, 1, 0), 0),
     ((4, 8, 20, 3, 0), 20), ((4, 7, 0, 3, 0), 20), ((4, 7, 20, 17, 0), 20), ((4, 7, 20, 3, 20), 20), ((4, 7, 20, 3, 20), 19),
 ]:
-    show_table(screen, places)
+    show_table(screen_of(*screen), places)
+for screen, places in [
+    ((4, 7, 20, 3, 0, 5, 4, 2), 20), ((4, 7, 20, 3, 0, 5, 4, 7), 20), ((4, 7, 20, 3, 0, 5, 4, 7), 19),
+    ((4, 7, 20, 3, 20, 5, 4, 7), 19),
+]:
+    print(stored(screen))
+    show_table(Screen(*screen), places)
 
 print("# a b n k g, separation, c m y: the colorant of each phase")
 for screen, inks in [
@@ -93,7 +106,7 @@ for screen, inks in [
     ((4, 7, 105, 16, 0), (200, 90, 140)), ((4, 7, 97, 1, 96), (13, 77, 250)), ((4, 7, 33, 5, 0), (255, 255, 255)),
     ((1, 2, 1, 1, 0), (128, 0, 0)), ((1, 2, 1, 1, 0), (127, 0, 0)),
 ]:
-    show_phases(screen, inks)
+    show_phases(screen_of(*screen), inks)
 
 print("# bar: its colorant by levels 10 20 20 30 40 50 60 70")
 for bar in [0, 10, 11, 20, 21, 60, 61, 71, 18446744073709551615]:

@@ -3,7 +3,8 @@
     PYTHONPATH=scripts python3 -B crates/screen_test/expected.py > crates/screen_test/stdout
 """
 
-from rules import TOP, brick, brick_phases, lent, numbers, phase, refusal
+from rules import TOP, Screen, brick, brick_phases, five, lent, made, numbers, phase, refusal, replaced, screen_of
+from rules import stored
 
 
 def place(s, x, y):
@@ -15,15 +16,61 @@ def brick_answer(s):
     return f"{refusal(s)} {numbers((0, 0, 0) if refusal(s) else brick(s))}"
 
 
+def made_answer(r, s):
+    return f"{r} {numbers(s)}"
+
+
 def show(s):
-    print(f"{numbers(s)}: {refusal(s)}; {brick_answer(s)}; {place(s, 0, 1)}, {place(s, 3, 2)}")
+    answers = brick_answer(s), f"{place(s, 0, 1)}, {place(s, 3, 2)}", made_answer(*made(*s[:5]))
+    print(f"{five(s)}: {refusal(s)}; {'; '.join(answers)}")
+
+
+def show_place(s, x, y):
+    print(f"{five(s)}, {x} {y}: {place(s, x, y)}")
 
 
 def show_filled(s, places):
-    print(f"{numbers(s)}, {places}: {lent(s, places, 72, brick_phases)}")
+    print(f"{five(s)}, {places}: {lent(s, places, 72, brick_phases)}")
 
 
-print("# a b n k g: refusal; L H S; refusal and phase of (0, 1), of (3, 2)")
+def show_replaced(s, name, number):
+    """Answers the screen handed back."""
+    r, back = replaced(s, name, number)
+    print(f"{name} {number}: {made_answer(r, back)}")
+    return back
+
+
+def show_list(s, replacements):
+    """Replacements, each of the screen that the one before handed back, and that screen in the end."""
+    show(s)
+    for name, number in replacements:
+        s = show_replaced(s, name, number)
+    show(s)
+
+
+def show_stored(s):
+    print(stored(s))
+    show(s)
+    for name, number in [("g", 0), ("k", 1), ("n", 0)]:
+        show_replaced(s, name, number)
+
+
+# the worked examples of rule 12.18
+example = made(4, 7, 105, 2, 40)
+assert example == (0, (4, 7, 105, 2, 40, 105, 1, 28))
+example = replaced(example[1], "n", 70)
+assert example == (0, (4, 7, 70, 2, 40, 35, 2, 21))
+for name, number, refused in [("n", 1, 3), ("n", 40, 4), ("g", 70, 4), ("k", 17, 3)]:
+    assert replaced(example[1], name, number) == (refused, example[1])
+
+# and of rule 12.19
+for columns, rows, shift in [(35, 2, 20), (36, 2, 21), (35, 1, 21), (35, 2, 56)]:
+    example = Screen(4, 7, 70, 2, 0, columns, rows, shift)
+    assert replaced(example, "n", 0) == (15, example)
+    assert place(example, 65536, 0) == "15 0"
+    assert refusal(example._replace(k=17)) == 3
+
+print("# a b n k g: refusal; L H S; refusal and phase of (0, 1), of (3, 2); made: refusal, screen")
 for screen in [
     (4, 7, 105, 2, 0), (4, 7, 70, 2, 0), (1, 2, 1, 1, 0),
     (0, 7, 105, 2, 0), (1, 7, 105, 2, 0), (4, 8, 105, 2, 0), (7, 7, 105, 2, 0), (6, 7, 105, 2, 0),
@@ -34,7 +81,7 @@ for screen in [
     (4, 7, 70, 2, 69), (4, 7, 70, 2, 70), (4, 7, 70, 2, TOP), (4, 7, 3, 2, 2), (60, 61, 48, 3, 17),
     (0, 0, 0, 0, 0), (4, 7, 0, 0, 0), (4, 7, 5, 6, 5), (4, 8, 105, 17, 105),
 ]:
-    show(screen)
+    show(screen_of(*screen))
 
 print("# a b n k g, x y: refusal and phase")
 for screen, x, y in [
@@ -42,7 +89,7 @@ for screen, x, y in [
     ((4, 7, 105, 2, 0), 0, 65535), ((4, 7, 105, 2, 0), 0, 65536), ((4, 7, 105, 2, 0), 65535, 65535),
     ((4, 7, 105, 2, 0), TOP, TOP), ((4, 7, 105, 2, 104), 65535, 65535), ((4, 7, 70, 2, 70), 65536, 65536),
 ]:
-    print(f"{numbers(screen)}, {x} {y}: {place(screen, x, y)}")
+    show_place(screen_of(*screen), x, y)
 
 print("# a b n k g, places: refusal; the buffer, every place 65535 before")
 for screen, places in [
@@ -50,4 +97,48 @@ for screen, places in [
     ((4, 7, 70, 2, 70), 70), ((4, 7, 70, 2, 70), 0), ((4, 7, 70, 2, 69), 70), ((60, 61, 48, 3, 17), 48),
     ((1, 2, 1, 1, 0), 1), ((4, 7, 3, 1, 2), 4),
 ]:
-    show_filled(screen, places)
+    show_filled(screen_of(*screen), places)
+
+print("# a screen as above, then what is replaced, one after the other: refusal, screen")
+for screen, replacements in [
+    ((4, 7, 105, 2, 40), [("n", 70), ("n", 1), ("n", 40), ("g", 70), ("k", 17)]),
+    ((63, 64, 105, 2, 0), [
+        ("n", 0), ("n", 4097), ("n", TOP), ("n", 4096), ("g", 4096), ("g", TOP), ("g", 4095), ("k", 0), ("k", 17), ("k", TOP),
+        ("k", 16), ("n", 4095), ("g", 15), ("n", 15), ("n", 16), ("n", 16), ("g", 0), ("n", 15), ("k", 1), ("n", 1), ("g", 1),
+        ("k", 2),
+    ]),
+    ((60, 61, 48, 3, 17), [
+        ("n", 60), ("n", 61), ("k", 5), ("n", 90), ("g", 89), ("n", 89), ("n", 3600), ("g", 3599), ("n", 4095),
+    ]),
+]:
+    show_list(screen_of(*screen), replacements)
+for screen, replacements in [
+    (Screen(0, 0, 0, 0, 0), [("n", 70)]),
+    (Screen(4, 7, 0, 2, 0, 35, 2, 21), [("n", 70)]),
+    (Screen(4, 7, 70, 17, 0, 35, 2, 21), [("k", 2), ("n", 0)]),
+    (Screen(4, 7, 70, 2, 70, 35, 2, 21), [("g", 0), ("n", 105), ("k", 17)]),
+]:
+    show(screen)
+    for name, number in replacements:
+        show_replaced(screen, name, number)
+
+print("# the same of screens that store these numbers, each replacement by itself")
+for numbers_stored in [
+    (35, 2, 21), (34, 2, 21), (36, 2, 21), (70, 2, 21), (0, 2, 21), (2147483683, 2, 21),
+    (35, 1, 21), (35, 3, 21), (35, 0, 21), (35, TOP, 21),
+    (35, 2, 20), (35, 2, 22), (35, 2, 56), (35, 2, 0), (35, 2, 1073741845),
+]:
+    show_stored(Screen(4, 7, 70, 2, 0, *numbers_stored))
+show_stored(Screen(1, 2, 1, 1, 0, 1, 1, 0))
+show_stored(Screen(1, 2, 1, 1, 0, 1, 1, 1))
+for numbers_stored in [(2, 35, 21), (7, 10, 0), (1, 70, 0), (105, 1, 28), (0, 0, 0), (TOP, TOP, TOP)]:
+    show_stored(Screen(4, 7, 70, 2, 0, *numbers_stored))
+of_70 = Screen(4, 7, 105, 2, 0, 35, 2, 21)
+show_stored(of_70)
+show_replaced(of_70, "n", 70)
+for screen in [(4, 8, 70, 2, 0), (4, 7, 0, 2, 0), (4, 7, 70, 17, 0), (4, 7, 70, 2, 70), (4, 7, 70, 2, 0)]:
+    show_stored(Screen(*screen, 35, 2, 20))
+for x, y in [(65535, 65535), (65536, 0), (0, 65536)]:
+    show_place(Screen(4, 7, 70, 2, 0, 35, 2, 20), x, y)
+for places in [70, 69, 0]:
+    show_filled(Screen(4, 7, 70, 2, 0, 35, 2, 20), places)

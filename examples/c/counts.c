@@ -5,7 +5,7 @@
 #include <stdio.h>
 
 int main(void) {
-    cavzemil_screen screen = {.a = 4, .b = 7, .n = 105, .k = 2, .g = 0};
+    cavzemil_screen screen = cavzemil_make_screen(4, 7, 105, 2, 0).screen;
     cavzemil_counts counts = cavzemil_counts_of(screen, CAVZEMIL_DEMICHEL, 128, 128, 0);
     printf("refusal %" PRIu32 ":", counts.refusal);
     for (int colorant = 0; colorant < 8; colorant++) {

@@ -17,7 +17,6 @@
 
 enum { N = 70, COLUMNS = 60, ROWS = 14, CELLS = COLUMNS * ROWS, PLANE = ROWS * ((COLUMNS + 7) / 8) };
 
-static const cavzemil_screen screen = {.a = 4, .b = 7, .n = N, .k = 2, .g = 0};
 static const uint8_t tints[3][3] = {{128, 128, 0}, {51, 102, 204}, {230, 40, 90}};
 
 /* Prints a row of eight numbers after a heading. */
@@ -30,7 +29,7 @@ static void print_numbers(const char *heading, const uint64_t numbers[8]) {
 }
 
 /* Prints the counts of a tint. */
-static void print_counts(const uint8_t tint[3]) {
+static void print_counts(cavzemil_screen screen, const uint8_t tint[3]) {
     char heading[32];
     uint64_t numbers[8];
     cavzemil_counts counts = cavzemil_counts_of(screen, CAVZEMIL_KUEPPERS, tint[0], tint[1], tint[2]);
@@ -70,7 +69,7 @@ static void print_plate(const uint8_t cells[CELLS]) {
 }
 
 /* Prints the colour predicted for the second tint, and what a bad primary is refused as. */
-static void print_colours(void) {
+static void print_colours(cavzemil_screen screen) {
     double primaries[24] = {22, 28, 90, 38, 20, 17, 76, 82, 10, 8, 6, 30,
                             9,  17, 8,  32, 18, 4,  2,  2,  2,  88, 92, 98};
     const uint8_t *tint = tints[1];
@@ -94,11 +93,11 @@ int main(void) {
     static uint8_t input[3 * CELLS], cells[CELLS];
     uint16_t brick[N];
     cavzemil_window window = {.x = 0, .y = 0, .columns = COLUMNS, .rows = ROWS};
-    cavzemil_brick sizes = cavzemil_brick_of(screen);
+    cavzemil_screen screen = cavzemil_make_screen(4, 7, N, 2, 0).screen;
     cavzemil_rendering rendering;
 
     printf("screen 4/7 of %d cells: bricks of %" PRIu32 " by %" PRIu32 ", shifted by %" PRIu32 "\n", N,
-           sizes.columns, sizes.rows, sizes.shift);
+           screen.columns, screen.rows, screen.shift);
     fill_input(input);
     if (cavzemil_fill_brick(screen, brick, N) != 0) {
         return 1;
@@ -110,11 +109,11 @@ int main(void) {
     }
     print_cells(cells);
     for (int tint = 0; tint < 3; tint++) {
-        print_counts(tints[tint]);
+        print_counts(screen, tints[tint]);
     }
     print_numbers("tallies of the patch", rendering.tallies);
     print_plate(cells);
-    print_colours();
+    print_colours(screen);
     print_charge(rendering.tallies);
     return 0;
 }

@@ -4,8 +4,8 @@
 use cavzemil::{Refusal, Screen, Separation, Window};
 
 fn main() -> Result<(), Refusal> {
-    let screen = Screen { a: 4, b: 7, n: 70, k: 2, g: 0 };
-    let brick = screen.brick()?;
+    let screen = Screen::new(4, 7, 70, 2, 0)?;
+    let brick = screen.brick();
     let window = Window { x: 0, y: 0, columns: brick.columns, rows: brick.rows };
     let input = [51, 102, 204].repeat(70);
     let mut cells = [0; 70];

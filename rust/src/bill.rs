@@ -16,7 +16,7 @@ use crate::refusal::Refusal;
 /// ```
 /// use cavzemil::{charge, Refusal, Screen, Separation, Window};
 ///
-/// let screen = Screen { a: 4, b: 7, n: 105, k: 2, g: 0 };
+/// let screen = Screen::new(4, 7, 105, 2, 0)?;
 /// let input = [128, 128, 0].repeat(105);
 /// let mut cells = [0; 105];
 /// let mut row = |y| {

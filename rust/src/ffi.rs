@@ -5,9 +5,11 @@
 //! else. Callers in Rust are better served by the safe interface at the crate's root, or by [`crate::calls`]
 //! where they want these numbers.
 
-/// A screen: the slope a/b, where 1 ≤ a < b ≤ 64 and no number above 1 divides both, the cell count N from
-/// 1 to 4,096, the number of subscreens K from 1 to 16 and never above N, and the offset g below N
-/// (rules 1.1 to 1.6).
+/// The record of a screen, which may hold any eight numbers; [`crate::Screen`] is one that is admitted.
+///
+/// It is admitted with the slope a/b, where 1 ≤ a < b ≤ 64 and no number above 1 divides both, the cell count
+/// N from 1 to 4,096, the number of subscreens K from 1 to 16 and never above N, the offset g below N, and
+/// then the columns, rows and shift of the brick that a, b and N give (rules 1.1 to 1.6 and 17.1).
 #[repr(C)]
 #[derive(Clone, Copy, Debug, PartialEq, Eq, Hash)]
 pub struct Screen {
@@ -21,6 +23,21 @@ pub struct Screen {
     pub k: u32,
     /// The offset.
     pub g: u32,
+    /// The brick's columns L.
+    pub columns: u32,
+    /// The brick's rows H.
+    pub rows: u32,
+    /// The brick's shift S.
+    pub shift: u32,
+}
+
+/// The answer of [`cavzemil_make_screen`], of eight zeros where it is refused, and of the three replacements,
+/// which then hand back the screen that they got (rules 17.2 and 17.4).
+#[repr(C)]
+#[derive(Clone, Copy, Debug, PartialEq, Eq)]
+pub struct Made {
+    pub refusal: u32,
+    pub screen: Screen,
 }
 
 /// A window of the sheet: its corner, and its columns and rows, which may be 0. The sheet has 65,536
@@ -121,6 +138,18 @@ pub struct Charge {
 extern "C" {
     /// The number of the rules that the archive follows.
     pub fn cavzemil_rules() -> u32;
+
+    /// The screen of five numbers.
+    pub fn cavzemil_make_screen(a: u32, b: u32, n: u32, k: u32, g: u32) -> Made;
+
+    /// The screen with another offset.
+    pub fn cavzemil_replace_offset(s: Screen, g: u32) -> Made;
+
+    /// The screen with another number of subscreens.
+    pub fn cavzemil_replace_subscreens(s: Screen, k: u32) -> Made;
+
+    /// The screen with another cell count.
+    pub fn cavzemil_replace_cells(s: Screen, n: u32) -> Made;
 
     /// The phase of a place.
     pub fn cavzemil_phase_at(s: Screen, x: u32, y: u32) -> Place;

@@ -4,14 +4,14 @@
 //! each call answers is fixed by the rules of the repository's `docs/RULES.md`, which the library is proved
 //! to follow; they are cited here by number, as `rule 3.2`.
 //!
-//! A [`Screen`] is five numbers. It knows the phase of every place of the sheet, tiles the sheet with a
-//! [`Brick`], and renders ink values to cells, one colorant number a byte:
+//! A [`Screen`] is made of five numbers. It knows the phase of every place of the sheet, tiles the sheet with
+//! a [`Brick`], and renders ink values to cells, one colorant number a byte:
 //!
 //! ```
 //! use cavzemil::{Screen, Separation, Window};
 //!
 //! # fn main() -> Result<(), cavzemil::Refusal> {
-//! let screen = Screen { a: 4, b: 7, n: 105, k: 2, g: 0 };
+//! let screen = Screen::new(4, 7, 105, 2, 0)?;
 //! let window = Window { x: 0, y: 0, columns: 105, rows: 1 };
 //! let input = [128, 128, 0].repeat(105);
 //! let mut cells = [0; 105];
@@ -20,6 +20,10 @@
 //! # Ok(())
 //! # }
 //! ```
+//!
+//! A screen keeps the columns, rows and shift of its brick. They stay those of its a, b and N, since a screen
+//! is come by only where the library admitted it: made, with a number replaced, or read from a filed
+//! [`Record`] (rule 17.6).
 //!
 //! [`pack`] turns cells into plates, eight planes of one bit a cell: a set bit in a colorant's plane means
 //! that this ink prints at that pixel (rule 8.2). [`Screen::predict`] says what colour a patch will have, by
@@ -31,13 +35,15 @@ mod bill;
 pub mod calls;
 mod colour;
 pub mod ffi;
+mod make;
 mod plates;
 mod refusal;
 mod screen;
 
 pub use bill::charge;
 pub use colour::{Colorant, Inks, Separation, Xyz};
-pub use ffi::{Screen, Window};
+pub use ffi::{Screen as Record, Window};
+pub use make::Screen;
 pub use plates::{pack, unpack};
 pub use refusal::Refusal;
 pub use screen::Brick;
@@ -51,4 +57,4 @@ pub use screen::Brick;
 /// ```
 /// assert_eq!(cavzemil::calls::rules(), cavzemil::RULES);
 /// ```
-pub const RULES: u32 = 2;
+pub const RULES: u32 = 3;

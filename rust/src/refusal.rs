@@ -1,4 +1,4 @@
-//! Refusals (rules 11.1 to 11.18).
+//! Refusals (rules 11.1 to 11.19).
 
 use crate::colour::Colorant;
 use std::error::Error;
@@ -7,13 +7,13 @@ use std::fmt;
 /// Why a call can't be served; where several refusals apply, it is that of the lowest number (rule 11.2), but
 /// 14 before 11 (rule 16.8).
 ///
+/// 1 to 4 and 15 refuse numbers that are to become a [`Screen`](crate::Screen), never one that there is.
 /// Number 10 is the counts program's alone (rule 11.14), and no call here can meet it.
 ///
 /// ```
 /// use cavzemil::{Refusal, Screen};
 ///
-/// let screen = Screen { a: 4, b: 8, n: 70, k: 1, g: 0 };
-/// let refusal = screen.brick().unwrap_err();
+/// let refusal = Screen::new(4, 8, 70, 1, 0).unwrap_err();
 /// assert_eq!(refusal, Refusal::Slope);
 /// assert_eq!(refusal.number(), 1);
 /// assert_eq!(
@@ -54,6 +54,8 @@ pub enum Refusal {
     Job,
     /// 14: the primaries of a cellular prediction aren't 765 values, three for each of 255 sets.
     PrimariesLength,
+    /// 15: the columns, rows and shift in a screen's record aren't those of its a, b and N.
+    Stored,
 }
 
 impl Refusal {
@@ -73,6 +75,7 @@ impl Refusal {
             Refusal::Price => 12,
             Refusal::Job => 13,
             Refusal::PrimariesLength => 14,
+            Refusal::Stored => 15,
         }
     }
 
@@ -97,6 +100,7 @@ impl Refusal {
             12 => Refusal::Price,
             13 => Refusal::Job,
             14 => Refusal::PrimariesLength,
+            15 => Refusal::Stored,
             _ => panic!("the library answered {number}, which is no refusal of this call"),
         })
     }
@@ -137,6 +141,7 @@ impl fmt::Display for Refusal {
             Refusal::Price => "a price is above 1,000,000 cents for a million cells",
             Refusal::Job => "a job needs 1 to 1,000 windows, each of at most 4,294,967,296 cells",
             Refusal::PrimariesLength => "a cellular prediction needs 765 values, X, Y, Z of each of 255 sets",
+            Refusal::Stored => "the stored columns, rows and shift are not those of a, b and N",
         };
         write!(formatter, "{wrong} (refusal {})", self.number())
     }

@@ -1,8 +1,10 @@
-//! What a screen can be asked. Every call tests the screen first, by refusals 1 to 4 (rule 11.4).
+//! What a screen can be asked. Every call tests the screen first, by refusals 1 to 4 and 15 (rule 11.4), and a
+//! [`Screen`] passes: of each call's refusals only the others are left.
 
 use crate::calls;
 use crate::colour::{Colorant, Inks, Separation, Xyz};
-use crate::ffi::{Rendering, Screen, Window};
+use crate::ffi::{Rendering, Window};
+use crate::make::Screen;
 use crate::refusal::Refusal;
 
 /// A brick, which tiles the sheet: (x + shift, y + rows) has the phase of (x, y), and a row repeats after
@@ -29,29 +31,30 @@ impl Screen {
     /// ```
     /// use cavzemil::{Refusal, Screen};
     ///
-    /// let screen = Screen { a: 4, b: 7, n: 105, k: 1, g: 0 };
+    /// let screen = Screen::new(4, 7, 105, 1, 0)?;
     /// assert_eq!(screen.phase_at(0, 1), Ok(98));
     /// assert_eq!(screen.phase_at(3, 2), Ok(103));
     /// assert_eq!(screen.phase_at(65_536, 0), Err(Refusal::OffSheet));
+    /// # Ok::<(), Refusal>(())
     /// ```
     pub fn phase_at(self, x: u32, y: u32) -> Result<u32, Refusal> {
-        let place = calls::phase_at(self, x, y);
+        let place = calls::phase_at(self.into(), x, y);
         Refusal::check(place.refusal, 0)?;
         Ok(place.phase)
     }
 
-    /// The brick's sizes; `columns` × `rows` is N (rules 3.1 to 3.3).
+    /// The brick's sizes, as the screen stores them; `columns` × `rows` is N (rules 3.1 to 3.3 and 3.5). Never
+    /// refused.
     ///
     /// ```
     /// use cavzemil::{Brick, Screen};
     ///
-    /// let screen = Screen { a: 4, b: 7, n: 70, k: 1, g: 0 };
-    /// assert_eq!(screen.brick(), Ok(Brick { columns: 35, rows: 2, shift: 21 }));
+    /// let screen = Screen::new(4, 7, 70, 1, 0)?;
+    /// assert_eq!(screen.brick(), Brick { columns: 35, rows: 2, shift: 21 });
+    /// # Ok::<(), cavzemil::Refusal>(())
     /// ```
-    pub fn brick(self) -> Result<Brick, Refusal> {
-        let brick = calls::brick_of(self);
-        Refusal::check(brick.refusal, 0)?;
-        Ok(Brick { columns: brick.columns, rows: brick.rows, shift: brick.shift })
+    pub fn brick(self) -> Brick {
+        Brick { columns: self.columns(), rows: self.rows(), shift: self.shift() }
     }
 
     /// Fills the first N places of a brick buffer: place v × columns + u has the phase of (u, v). Later
@@ -60,7 +63,7 @@ impl Screen {
     /// ```
     /// use cavzemil::{Refusal, Screen};
     ///
-    /// let screen = Screen { a: 2, b: 3, n: 6, k: 1, g: 1 };
+    /// let screen = Screen::new(2, 3, 6, 1, 1)?;
     /// let mut brick = [99; 7];
     /// screen.fill_brick(&mut brick)?;
     /// assert_eq!(brick, [5, 1, 3, 2, 4, 0, 99]);
@@ -68,22 +71,27 @@ impl Screen {
     /// # Ok::<(), cavzemil::Refusal>(())
     /// ```
     pub fn fill_brick(self, brick: &mut [u16]) -> Result<(), Refusal> {
-        Refusal::check(calls::fill_brick(self, brick), 0)
+        Refusal::check(calls::fill_brick(self.into(), brick), 0)
     }
 
-    /// How many of the N cells of a brick each colorant gets; the counts add up to N (rules 5.1 to 5.4).
+    /// How many of the N cells of a brick each colorant gets; the counts add up to N (rules 5.1 to 5.4). Never
+    /// refused.
     ///
     /// ```
     /// use cavzemil::{Inks, Screen, Separation};
     ///
-    /// let screen = Screen { a: 4, b: 7, n: 70, k: 1, g: 0 };
+    /// let screen = Screen::new(4, 7, 70, 1, 0)?;
     /// let counts = screen.counts(Separation::Kueppers, Inks { c: 51, m: 102, y: 204 });
-    /// assert_eq!(counts, Ok([0, 0, 28, 0, 0, 14, 14, 14]));
+    /// assert_eq!(counts, [0, 0, 28, 0, 0, 14, 14, 14]);
+    /// # Ok::<(), cavzemil::Refusal>(())
     /// ```
-    pub fn counts(self, separation: Separation, inks: Inks) -> Result<[u32; 8], Refusal> {
-        let counts = calls::counts_of(self, separation.number(), inks.values());
-        Refusal::check(counts.refusal, 0)?;
-        Ok(counts.of)
+    ///
+    /// # Panics
+    /// Where the linked archive refuses a screen that it has admitted: then it is not Cavzemil's.
+    pub fn counts(self, separation: Separation, inks: Inks) -> [u32; 8] {
+        let counts = calls::counts_of(self.into(), separation.number(), inks.values());
+        assert_eq!(counts.refusal, 0, "the library refused a screen that it has admitted");
+        counts.of
     }
 
     /// The colorant of column x and row y where the inks have these values (rules 6.3 and 7.8). Refused as 5
@@ -92,13 +100,14 @@ impl Screen {
     /// ```
     /// use cavzemil::{Colorant, Inks, Screen, Separation};
     ///
-    /// let screen = Screen { a: 1, b: 2, n: 1, k: 1, g: 0 };
+    /// let screen = Screen::new(1, 2, 1, 1, 0)?;
     /// let colorant = |c| screen.cell_at(Separation::Kueppers, 0, 0, Inks { c, m: 0, y: 0 });
     /// assert_eq!(colorant(128), Ok(Colorant::Cyan));
     /// assert_eq!(colorant(127), Ok(Colorant::White));
+    /// # Ok::<(), cavzemil::Refusal>(())
     /// ```
     pub fn cell_at(self, separation: Separation, x: u32, y: u32, inks: Inks) -> Result<Colorant, Refusal> {
-        let cell = calls::cell_at(self, separation.number(), x, y, inks.values());
+        let cell = calls::cell_at(self.into(), separation.number(), x, y, inks.values());
         Refusal::check(cell.refusal, 0)?;
         Ok(Colorant::from_answer(cell.colorant))
     }
@@ -111,7 +120,7 @@ impl Screen {
     /// ```
     /// use cavzemil::{Refusal, Screen, Separation, Window};
     ///
-    /// let screen = Screen { a: 4, b: 7, n: 105, k: 2, g: 0 };
+    /// let screen = Screen::new(4, 7, 105, 2, 0)?;
     /// let last = Window { x: 65_535, y: 0, columns: 1, rows: 1 };
     /// let mut cell = [200];
     /// let tallies = screen.render(Separation::Demichel, last, &[255, 255, 0], &mut cell)?;
@@ -129,7 +138,7 @@ impl Screen {
         input: &[u8],
         out: &mut [u8],
     ) -> Result<[u64; 8], Refusal> {
-        tallies(calls::render(self, separation.number(), window, input, out))
+        tallies(calls::render(self.into(), separation.number(), window, input, out))
     }
 
     /// Renders a window like [`Screen::render`], phases read from a brick buffer that
@@ -139,7 +148,7 @@ impl Screen {
     /// ```
     /// use cavzemil::{Screen, Separation, Window};
     ///
-    /// let screen = Screen { a: 4, b: 7, n: 70, k: 3, g: 5 };
+    /// let screen = Screen::new(4, 7, 70, 3, 5)?;
     /// let window = Window { x: 11, y: 3, columns: 4, rows: 2 };
     /// let input = [51, 102, 204].repeat(8);
     /// let mut brick = [0; 70];
@@ -160,7 +169,7 @@ impl Screen {
         brick: &[u16],
         out: &mut [u8],
     ) -> Result<[u64; 8], Refusal> {
-        tallies(calls::render_brick(self, separation.number(), window, input, brick, out))
+        tallies(calls::render_brick(self.into(), separation.number(), window, input, brick, out))
     }
 
     /// The colour of a patch: the mean of the eight primaries, weighed by the counts (rules 9.1 to 9.5).
@@ -169,7 +178,7 @@ impl Screen {
     /// ```
     /// use cavzemil::{Colorant, Inks, Refusal, Screen, Separation, Xyz};
     ///
-    /// let screen = Screen { a: 4, b: 7, n: 70, k: 1, g: 0 };
+    /// let screen = Screen::new(4, 7, 70, 1, 0)?;
     /// let mut primaries = [Xyz { x: 50.0, y: 60.0, z: 70.0 }; 8];
     /// let inks = Inks { c: 0, m: 255, y: 0 };
     /// primaries[1] = Xyz { x: 30.0, y: 20.0, z: 40.0 };
@@ -178,10 +187,12 @@ impl Screen {
     /// primaries[1].x = 200.5;
     /// let refused = screen.predict(Separation::Demichel, inks, &primaries);
     /// assert_eq!(refused, Err(Refusal::Primary(Colorant::Magenta)));
+    /// # Ok::<(), Refusal>(())
     /// ```
     pub fn predict(self, separation: Separation, inks: Inks, primaries: &[Xyz; 8]) -> Result<Xyz, Refusal> {
         let values = primaries.map(|primary| [primary.x, primary.y, primary.z]);
-        let prediction = calls::predict(self, separation.number(), inks.values(), values.as_flattened());
+        let prediction =
+            calls::predict(self.into(), separation.number(), inks.values(), values.as_flattened());
         Refusal::check(prediction.refusal, prediction.colorant)?;
         Ok(Xyz { x: prediction.x, y: prediction.y, z: prediction.z })
     }
@@ -220,7 +231,7 @@ impl Screen {
     /// primaries[1 + 2 + 8 + 128 - 1] = [30.0, 28.0, 46.0];
     ///
     /// // The counts are 26, 26, 0, 27, 0, 0, 0, 26: 104 of the 105 cells go to these four, 1 to blue alone.
-    /// let screen = Screen { a: 4, b: 7, n: 105, k: 2, g: 0 };
+    /// let screen = Screen::new(4, 7, 105, 2, 0)?;
     /// let predict = |primaries: &[[f64; 3]]| {
     ///     let inks = Inks { c: 128, m: 128, y: 0 };
     ///     screen.predict_cellular(Separation::Demichel, inks, primaries.as_flattened())
@@ -239,7 +250,7 @@ impl Screen {
         inks: Inks,
         primaries: &[f64],
     ) -> Result<Xyz, Refusal> {
-        let cellular = calls::predict_cellular(self, separation.number(), inks.values(), primaries);
+        let cellular = calls::predict_cellular(self.into(), separation.number(), inks.values(), primaries);
         Refusal::check_cellular(cellular.refusal, cellular.set)?;
         Ok(Xyz { x: cellular.x, y: cellular.y, z: cellular.z })
     }

@@ -7,7 +7,7 @@
 //! program with it. So it is a program of its own.
 
 use cavzemil::ffi::{cavzemil_charge_of, cavzemil_predict_cellular, Cellular, Charge, Prices};
-use cavzemil::{charge, Inks, Screen, Separation, Xyz};
+use cavzemil::{charge, Inks, Record, Screen, Separation, Xyz};
 use cavzemil_plain::{charge_of, predict_cellular, random::Random};
 use std::ffi::{c_int, c_long, c_void};
 use std::ptr::null_mut;
@@ -146,8 +146,8 @@ fn nothing_beside_a_run_is_read() {
     }
 }
 
-/// A screen that is admitted.
-const SCREEN: Screen = Screen { a: 4, b: 7, n: 105, k: 2, g: 0 };
+/// The record of a screen that is admitted.
+const RECORD: Record = Record { a: 4, b: 7, n: 105, k: 2, g: 0, columns: 105, rows: 1, shift: 28 };
 
 /// Rule 11.18: lengths about 765, far beyond it, and such as are 765 in 16 or in 32 bits.
 #[test]
@@ -158,7 +158,7 @@ fn primaries_of_another_length_are_not_read() {
         for separation in [0, 1] {
             // SAFETY: the run is as long as it is said to be.
             let answer =
-                unsafe { cavzemil_predict_cellular(SCREEN, separation, 1, 2, 3, memory.start, length) };
+                unsafe { cavzemil_predict_cellular(RECORD, separation, 1, 2, 3, memory.start, length) };
             assert_eq!(answer, Cellular { refusal: 14, set: 0, x: 0.0, y: 0.0, z: 0.0 });
         }
     }
@@ -168,7 +168,8 @@ fn primaries_of_another_length_are_not_read() {
 #[test]
 fn nothing_beside_primaries_is_read() {
     let mut random = Random::new(82);
-    let plain_screen = cavzemil_plain::Screen { a: 4, b: 7, n: 105, k: 2, g: 0 };
+    let screen = Screen::try_from(RECORD).expect("the record is true");
+    let plain_screen = cavzemil_plain::make_screen(4, 7, 105, 2, 0).screen;
     for first in [0, 2 * PAGE - 765] {
         let mut memory = Closed::new(4 * PAGE);
         let primaries = &mut memory.open(1, 2)[first..first + 765];
@@ -176,7 +177,7 @@ fn nothing_beside_primaries_is_read() {
         for c in 0..=255 {
             let inks = Inks { c, m: 255 - c, y: 90 };
             let [x, y, z] = predict_cellular(plain_screen, 0, [c, 255 - c, 90], primaries).xyz;
-            let found = SCREEN.predict_cellular(Separation::Demichel, inks, primaries);
+            let found = screen.predict_cellular(Separation::Demichel, inks, primaries);
             assert_eq!(found, Ok(Xyz { x, y, z }));
         }
     }

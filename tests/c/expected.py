@@ -5,15 +5,18 @@
 
 import struct
 
-from rules import COLORANTS, COLOURS, RULES_IN_FORCE, SEPARATIONS
-from rules import admitted, brick, brick_phases, cellular, charge, colorants, counts, mean, numbers, phase
+from rules import COLORANTS, COLOURS, RULES_IN_FORCE, SEPARATIONS, Screen
+from rules import admitted, brick, brick_phases, cellular, charge, colorants, counts, made, mean, numbers, phase
+from rules import replaced, screen_of
 from rules import refusal as screen_refusal
 
-SCREEN = 4, 7, 30, 3, 5
+SCREEN = screen_of(4, 7, 30, 3, 5)
 REFUSED = {
-    "slope 4/8": (4, 8, 30, 3, 5), "4097 cells": (4, 7, 4097, 3, 5),
-    "17 subscreens": (4, 7, 30, 17, 5), "offset 30": (4, 7, 30, 3, 30),
+    "slope 4/8": Screen(4, 8, 30, 3, 5, 1, 2, 3), "4097 cells": Screen(4, 7, 4097, 3, 5, 4, 5, 6),
+    "17 subscreens": Screen(4, 7, 30, 17, 5, 7, 8, 9), "offset 30": Screen(4, 7, 30, 3, 30, 10, 11, 12),
+    "columns 16": SCREEN._replace(columns=16), "rows 1": SCREEN._replace(rows=1), "shift 26": SCREEN._replace(shift=26),
 }
+REPLACE = {"g": "replace_offset", "k": "replace_subscreens", "n": "replace_cells"}
 WINDOW = 8, 13, 5, 3
 TINT = 51, 204, 102
 INPUT = [
@@ -71,6 +74,17 @@ def tallies(cells):
     return f", tallies {numbers(tallied(cells))}"
 
 
+def show_made(function, call, r, s):
+    show(function, call, r, "".join(f", {name} {number}" for name, number in s._asdict().items()))
+
+
+def show_replaced(call, s, name, number):
+    """Answers the screen handed back."""
+    r, back = replaced(s, name, number)
+    show_made(REPLACE[name], call, r, back)
+    return back
+
+
 def show_place(call, s, x=8, y=13):
     r = screen_refusal(s) or sheet_refusal(x, y)
     show("phase_at", call, r, f", phase {0 if r else phase(s, x, y)}")
@@ -83,7 +97,7 @@ def show_brick(call, s):
 
 
 def show_filling(call, s, places=31):
-    r = screen_refusal(s) or (8 if places < s[2] else 0)
+    r = screen_refusal(s) or (8 if places < s.n else 0)
     show("fill_brick", call, r, lent("brick", [] if r else brick_phases(s), 32, 170 * 257))
 
 
@@ -104,10 +118,10 @@ def show_window(call, s, sep, w=WINDOW, inputs=45, outputs=15):
 
 
 def show_brick_window(call, s, sep, places=31):
-    r = window_refusal(s, sep, WINDOW, 45, 15) or (8 if places < s[2] else 0)
+    phases = brick_phases(SCREEN)
+    r = window_refusal(s, sep, WINDOW, 45, 15) or (8 if phases[:places][: s.n] != brick_phases(s) else 0)
     cells = [] if r else rendered(s, sep, WINDOW)
-    buffer = lent("brick", brick_phases(SCREEN), 32, 0)
-    show("render_brick", call, r, tallies(cells) + lent("out", cells, 17) + buffer)
+    show("render_brick", call, r, tallies(cells) + lent("out", cells, 17) + lent("brick", phases, 32, 0))
 
 
 def xyz(values):
@@ -118,7 +132,7 @@ def xyz(values):
 def show_colour(call, s, sep, primaries=PRIMARIES):
     bad = [place // 3 for place, value in enumerate(primaries) if not admitted(value)]
     r = refusal(s, sep) or (6 if len(primaries) != 24 else 11 if bad else 0)
-    values = [0.0] * 3 if r else [mean(counts(s, sep, TINT), primaries[channel::3], s[2]) for channel in range(3)]
+    values = [0.0] * 3 if r else [mean(counts(s, sep, TINT), primaries[channel::3], s.n) for channel in range(3)]
     show("predict", call, r, f", colorant {bad[0] if r == 11 else 0}{xyz(values)}")
 
 
@@ -166,6 +180,10 @@ def show_charge(call, run, prices=PRICES):
 
 
 def show_screen(call, s):
+    show_made("make_screen", call, *made(*s[:5]))
+    show_replaced(call, s, "g", 29)
+    show_replaced(call, s, "k", 1)
+    show_replaced(call, s, "n", 35)
     show_place(call, s)
     show_brick(call, s)
     show_filling(call, s)
@@ -196,6 +214,8 @@ for call, screen in REFUSED.items():
     show_screen(call, screen)
     show_separation(call, screen, "demichel")
 
+show_made("make_screen", "largest numbers", *made(63, 64, 4096, 16, 4095))
+show_made("make_screen", "65566 cells", *made(4, 7, 65566, 3, 5))
 show_place("beyond the sheet", SCREEN, y=65536)
 show_filling("brick too short", SCREEN, 29)
 show_cell("beyond the sheet", SCREEN, "kueppers", x=65536)
@@ -206,6 +226,16 @@ show_window("output too long", SCREEN, "kueppers", outputs=16)
 show_brick_window("brick too short", SCREEN, "kueppers", 29)
 show_colour("primaries too short", SCREEN, "kueppers", PRIMARIES[:23])
 show_colour("green too bright", SCREEN, "kueppers", PRIMARIES[:13] + [200.5] + PRIMARIES[14:])
+
+after = SCREEN
+for call, name, number in [
+    ("105 cells", "n", 105), ("offset 105", "g", 105), ("offset 104", "g", 104), ("104 cells", "n", 104),
+    ("16 subscreens", "k", 16), ("17 subscreens", "k", 17), ("65538 subscreens", "k", 65538), ("offset 65536", "g", 65536),
+    ("65641 cells", "n", 65641), ("no cells", "n", 0), ("offset 0", "g", 0), ("15 cells", "n", 15), ("16 cells", "n", 16),
+]:
+    after = show_replaced(call, after, name, number)
+show_screen("after replacements", after)
+show_separation("after replacements", after, "kueppers")
 
 zeros = changed({(number, 1): -0.0 for number in range(1, 256)})
 bad = changed({(226, 0): -1.0, (200, 2): 1e300}, zeros)
@@ -221,6 +251,23 @@ show_cellular("offset 30, set 3 too bright", REFUSED["offset 30"], "kueppers", c
 show_cellular("minus zeros", SCREEN, "kueppers", zeros)
 show_cellular("sets 200 and 226 bad", SCREEN, "kueppers", bad)
 show_cellular("separation 256, all else bad", REFUSED["slope 4/8"], "separation 256", bad[:764])
+
+shifted = REFUSED["shift 26"]
+show_replaced("shift 26, no cells", shifted, "n", 0)
+show_replaced("shift 26, 17 subscreens", shifted, "k", 17)
+show_replaced("shift 26, offset 30", shifted, "g", 30)
+show_place("shift 26, beyond the sheet", shifted, y=65536)
+show_filling("shift 26, brick too short", shifted, 29)
+show_separation("shift 26, separation 2", shifted, "separation 2")
+show_cell("shift 26, beyond the sheet", shifted, "kueppers", x=65536)
+show_window("shift 26, beyond the sheet", shifted, "kueppers", (65536, 13, 5, 3))
+show_window("shift 26, input too short", shifted, "kueppers", inputs=44)
+show_window("shift 26, output too long", shifted, "kueppers", outputs=16)
+show_brick_window("shift 26, brick too short", shifted, "kueppers", 29)
+show_colour("shift 26, primaries too short", shifted, "kueppers", PRIMARIES[:23])
+show_colour("shift 26, cyan too dark", shifted, "kueppers", [-1.0] + [0.0] * 23)
+show_cellular("shift 26, records too short", shifted, "kueppers", RECORDS[:764])
+show_cellular("shift 26, set 1 too dark", shifted, "kueppers", changed({(1, 0): -1.0}))
 
 planes = planes_of(CELLS)
 show_packing("served", CELLS)

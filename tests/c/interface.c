@@ -14,12 +14,18 @@ enum { PLATE_WIDE = 11, PLATE_HIGH = 2, PLATE_CELLS = PLATE_WIDE * PLATE_HIGH, P
 enum { TALLIES = 16, MOST_TALLIES = 8000, MOST_PRICE = 1000000 };
 enum { VALUES = 24, SETS = 255, RECORDS = 3 * SETS, SHEET = 65536, GUARDS = 2, UNWRITTEN = 170 };
 
-static const cavzemil_screen screen = {.a = 4, .b = 7, .n = N, .k = 3, .g = 5};
+static const cavzemil_screen screen = {
+    .a = 4, .b = 7, .n = N, .k = 3, .g = 5, .columns = 15, .rows = 2, .shift = 11,
+};
+/* The last of them stores 26 columns, which lead as far along a row as 11 do. */
 static const struct { const char *call; cavzemil_screen s; } refused[] = {
-    {"slope 4/8", {.a = 4, .b = 8, .n = N, .k = 3, .g = 5}},
-    {"4097 cells", {.a = 4, .b = 7, .n = 4097, .k = 3, .g = 5}},
-    {"17 subscreens", {.a = 4, .b = 7, .n = N, .k = 17, .g = 5}},
-    {"offset 30", {.a = 4, .b = 7, .n = N, .k = 3, .g = N}},
+    {"slope 4/8", {.a = 4, .b = 8, .n = N, .k = 3, .g = 5, .columns = 1, .rows = 2, .shift = 3}},
+    {"4097 cells", {.a = 4, .b = 7, .n = 4097, .k = 3, .g = 5, .columns = 4, .rows = 5, .shift = 6}},
+    {"17 subscreens", {.a = 4, .b = 7, .n = N, .k = 17, .g = 5, .columns = 7, .rows = 8, .shift = 9}},
+    {"offset 30", {.a = 4, .b = 7, .n = N, .k = 3, .g = N, .columns = 10, .rows = 11, .shift = 12}},
+    {"columns 16", {.a = 4, .b = 7, .n = N, .k = 3, .g = 5, .columns = 16, .rows = 2, .shift = 11}},
+    {"rows 1", {.a = 4, .b = 7, .n = N, .k = 3, .g = 5, .columns = 15, .rows = 1, .shift = 11}},
+    {"shift 26", {.a = 4, .b = 7, .n = N, .k = 3, .g = 5, .columns = 15, .rows = 2, .shift = 26}},
 };
 static const cavzemil_window window = {.x = X, .y = Y, .columns = WIDE, .rows = HIGH};
 static const struct { uint8_t c, m, y; } tint = {.c = 51, .m = 204, .y = 102};
@@ -76,6 +82,35 @@ static void print_value(const char *name, double value) {
     uint64_t bits;
     memcpy(&bits, &value, sizeof bits);
     printf(", %s %016" PRIx64, name, bits);
+}
+
+/* Prints a screen that was made or handed back, and answers it. */
+static cavzemil_screen show_made(const char *function, const char *call, cavzemil_made made) {
+    cavzemil_screen s = made.screen;
+    print_call(function, call, made.refusal);
+    printf(", a %" PRIu32 ", b %" PRIu32 ", n %" PRIu32 ", k %" PRIu32 ", g %" PRIu32, s.a, s.b, s.n, s.k, s.g);
+    printf(", columns %" PRIu32 ", rows %" PRIu32 ", shift %" PRIu32 "\n", s.columns, s.rows, s.shift);
+    return s;
+}
+
+/* Makes the screen of five numbers, those of a screen. */
+static void show_making(const char *call, cavzemil_screen s) {
+    show_made("make_screen", call, cavzemil_make_screen(s.a, s.b, s.n, s.k, s.g));
+}
+
+/* Replaces the offset of a screen, and answers what is handed back. */
+static cavzemil_screen show_offset(const char *call, cavzemil_screen s, uint32_t g) {
+    return show_made("replace_offset", call, cavzemil_replace_offset(s, g));
+}
+
+/* Replaces the number of subscreens, and answers what is handed back. */
+static cavzemil_screen show_subscreens(const char *call, cavzemil_screen s, uint32_t k) {
+    return show_made("replace_subscreens", call, cavzemil_replace_subscreens(s, k));
+}
+
+/* Replaces the cell count, and answers what is handed back. */
+static cavzemil_screen show_cells(const char *call, cavzemil_screen s, uint32_t n) {
+    return show_made("replace_cells", call, cavzemil_replace_cells(s, n));
 }
 
 /* Prints the phase of a place. */
@@ -213,6 +248,10 @@ static void show_constants(void) {
 
 /* Prints what every call with a screen and no separation answers. */
 static void show_screen(const char *call, cavzemil_screen s) {
+    show_making(call, s);
+    show_offset(call, s, N - 1);
+    show_subscreens(call, s, 1);
+    show_cells(call, s, N + 5);
     show_place(call, s, X, Y);
     show_brick(call, s);
     show_filling(call, s, N + 1);
@@ -228,11 +267,16 @@ static void show_separation(const char *call, cavzemil_screen s, uint32_t separa
     show_cellular(call, s, separation, records, RECORDS);
 }
 
-/* Prints what is answered where a place, a window, a length or a primary is too much, and at the sheet's end. */
+/* Prints what is answered where a place, a window, a length or a primary is too much, at the sheet's end, and where
+   the numbers of a screen are the largest or one has too many bits. */
 static void show_limits(void) {
+    const cavzemil_screen most = {.a = 63, .b = 64, .n = 4096, .k = 16, .g = 4095};
+    const cavzemil_screen wide = {.a = 4, .b = 7, .n = 65536 + N, .k = 3, .g = 5};
     const cavzemil_window last = {.x = SHEET - WIDE, .y = SHEET - HIGH, .columns = WIDE, .rows = HIGH};
     const cavzemil_window beyond = {.x = SHEET - WIDE + 1, .y = Y, .columns = WIDE, .rows = HIGH};
     double values[VALUES];
+    show_making("largest numbers", most);
+    show_making("65566 cells", wide);
     show_place("beyond the sheet", screen, X, SHEET);
     show_filling("brick too short", screen, N - 1);
     show_cell("beyond the sheet", screen, CAVZEMIL_KUEPPERS, SHEET, Y);
@@ -245,6 +289,26 @@ static void show_limits(void) {
     memcpy(values, primaries, sizeof values);
     values[3 * CAVZEMIL_GREEN + 1] = 200.5;
     show_colour("green too bright", screen, CAVZEMIL_KUEPPERS, values, VALUES);
+}
+
+/* Prints replacements one after the other, each of what the one before handed back, and the screen in the end; 65538,
+   65536 and 65641 would be admitted with half of their bits. */
+static void show_replacements(void) {
+    cavzemil_screen s = show_cells("105 cells", screen, 105);
+    s = show_offset("offset 105", s, 105);
+    s = show_offset("offset 104", s, 104);
+    s = show_cells("104 cells", s, 104);
+    s = show_subscreens("16 subscreens", s, 16);
+    s = show_subscreens("17 subscreens", s, 17);
+    s = show_subscreens("65538 subscreens", s, 65538);
+    s = show_offset("offset 65536", s, 65536);
+    s = show_cells("65641 cells", s, 65641);
+    s = show_cells("no cells", s, 0);
+    s = show_offset("offset 0", s, 0);
+    s = show_cells("15 cells", s, 15);
+    s = show_cells("16 cells", s, 16);
+    show_screen("after replacements", s);
+    show_separation("after replacements", s, CAVZEMIL_KUEPPERS);
 }
 
 /* Fills the records of all sets, and a few places more, with values of which no two are equal. */
@@ -284,6 +348,28 @@ static void show_sets(void) {
     xyz[3 * (200 - 1) + 2] = 1e300;
     show_cellular("sets 200 and 226 bad", screen, CAVZEMIL_KUEPPERS, xyz, RECORDS);
     show_cellular("separation 256, all else bad", refused[0].s, 256, xyz, RECORDS - 1);
+}
+
+/* Prints what is answered where a stored number and something else are wrong. */
+static void show_stored(void) {
+    const cavzemil_screen shifted = refused[6].s;
+    const cavzemil_window beyond = {.x = SHEET, .y = Y, .columns = WIDE, .rows = HIGH};
+    const double dark[VALUES] = {-1};
+    show_cells("shift 26, no cells", shifted, 0);
+    show_subscreens("shift 26, 17 subscreens", shifted, 17);
+    show_offset("shift 26, offset 30", shifted, N);
+    show_place("shift 26, beyond the sheet", shifted, X, SHEET);
+    show_filling("shift 26, brick too short", shifted, N - 1);
+    show_separation("shift 26, separation 2", shifted, 2);
+    show_cell("shift 26, beyond the sheet", shifted, CAVZEMIL_KUEPPERS, SHEET, Y);
+    show_window("shift 26, beyond the sheet", shifted, CAVZEMIL_KUEPPERS, beyond, sizeof input, CELLS);
+    show_window("shift 26, input too short", shifted, CAVZEMIL_KUEPPERS, window, sizeof input - 1, CELLS);
+    show_window("shift 26, output too long", shifted, CAVZEMIL_KUEPPERS, window, sizeof input, CELLS + 1);
+    show_brick_window("shift 26, brick too short", shifted, CAVZEMIL_KUEPPERS, N - 1);
+    show_colour("shift 26, primaries too short", shifted, CAVZEMIL_KUEPPERS, primaries, VALUES - 1);
+    show_colour("shift 26, cyan too dark", shifted, CAVZEMIL_KUEPPERS, dark, VALUES);
+    show_cellular("shift 26, records too short", shifted, CAVZEMIL_KUEPPERS, records, RECORDS - 1);
+    show_set("shift 26, set 1 too dark", shifted, 1, 0, -1, RECORDS);
 }
 
 /* Prints plates packed and unpacked, and what refuses them; the last of the cells, an 8, is one too many. */
@@ -359,7 +445,9 @@ int main(void) {
         show_separation(refused[at].call, refused[at].s, CAVZEMIL_DEMICHEL);
     }
     show_limits();
+    show_replacements();
     show_sets();
+    show_stored();
     show_plates();
     show_charges();
     show_charge_limits();

@@ -18,7 +18,8 @@ COMPILE = ["cc", "-std=c11", "-Wall", "-Wextra", "-pedantic", "-Werror"]
 PROGRAM = ["tests/c/interface.c", "target/staticlib/libcavzemil.a"]
 LOST_IN_COMPILING = {
     "charge_of_length_in_32_bits", "fill_brick_length_in_32_bits", "fill_brick_only_reads",
-    "phase_at_x_and_y_exchanged", "predict_cellular_length_in_32_bits", "rules_of_any_parameters",
+    "make_screen_k_and_g_exchanged", "phase_at_x_and_y_exchanged", "predict_cellular_length_in_32_bits",
+    "replace_offset_g_in_64_bits", "rules_of_any_parameters",
 }
 
 

@@ -2,8 +2,9 @@
 -- All of it is one induction along the rule, 'what divides a * x and b * x divides gcdOf a b * x'; no Bezout numbers are needed.
 -- Assumes nothing.
 use Prim.Native.Nat.{ℕ, zero, suc, _+_, _*_, _/_, _%_, _≤_, _<_, _∣_}
-use mathlib.Core.Path.{_≡_, refl}
-use native.Mathlib.Nat.{le-refl, le-trans, le-of-suc-le-suc, not-suc-le-zero, zero-lt-suc, mod-lt, dvd-refl, dvd-zero, dvd-mod-iff, dvd-add-iff-right, dvd-mul-left-of-dvd, dvd-mul-right, pos-of-dvd-of-pos, dvd-of-mul-dvd-mul-left, mul-dvd-mul-left, mul-div-cancel', eq-one-of-dvd-one, mul-one, one-mul, add-mul, mul-assoc, div-add-mod'}
+use mathlib.Core.Path.{_≡_, refl, ap, _∙_}
+use native.Mathlib.Nat.{le-refl, le-trans, le-of-suc-le-suc, not-suc-le-zero, zero-lt-suc, mod-lt, mod-one, mod-eq-of-lt, dvd-refl, dvd-zero, dvd-mod-iff, dvd-add-iff-right, dvd-mul-left-of-dvd, dvd-mul-right, pos-of-dvd-of-pos, dvd-of-mul-dvd-mul-left, mul-dvd-mul-left, mul-div-cancel', eq-one-of-dvd-one, mul-one, one-mul, add-mul, mul-assoc, div-add-mod'}
+use native.Mathlib.Omega.{arith}
 use Rattle.arith.specs.Gcd.{gcdFuel, gcdOf}
 
 -- ---- the two equations of the rule
@@ -34,6 +35,13 @@ gcd-suc a b = fuel-same b (a % suc b) (suc b) (a % suc b) (mod-le-pred a b) (le-
 pub gcd-step : (a b : ℕ) → 0 < b → gcdOf a b ≡ gcdOf b (a % b)
 gcd-step a zero h = absurd (not-suc-le-zero h)
 gcd-step a (suc b) h = gcd-suc a b
+
+pub gcd-one : (a : ℕ) → gcdOf a 1 ≡ 1
+gcd-one a = gcd-step a 1 (omega arith) ∙ rw (mod-one a) (gcd-zero 1)
+
+-- the larger number may come first
+pub gcd-flipped : (a b : ℕ) → a < b → gcdOf a b ≡ gcdOf b a
+gcd-flipped a b l = gcd-step a b (omega arith) ∙ ap (gcdOf b) (mod-eq-of-lt l)
 
 -- ---- induction along the rule
 

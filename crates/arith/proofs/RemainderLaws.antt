@@ -82,6 +82,13 @@ remainder-only u v n p l e =
     let q : p % n ≡ remainderOf u v n % n = remainder-minus n p (remainderOf u v n) v pos (e ∙ sym (remainder-words u v n pos)) in
     sym (mod-eq-of-lt l) ∙ q ∙ mod-eq-of-lt (remainder-below u v n pos)
 
+-- it is 0 exactly where the two remainders are equal
+pub remainder-none : (u v n : ℕ) → 0 < n → (remainderOf u v n ≡ 0 → u % n ≡ v % n) × (u % n ≡ v % n → remainderOf u v n ≡ 0)
+remainder-none u v n pos = (
+  λ e. sym (remainder-words u v n pos) ∙ ap (λ (r : ℕ). (r + v) % n) e ∙ rw (zero-add v),
+  λ e. sym (remainder-only u v n 0 pos (rw (zero-add v) (sym e))),
+)
+
 -- it may be worked out from the two remainders, with n added before one is taken from the other
 pub remainder-apart : (u v n : ℕ) → 0 < n → (u % n + n - v % n) % n ≡ remainderOf u v n
 remainder-apart u v n pos =

@@ -1,4 +1,4 @@
--- How refusals combine (rule 11.2: the lowest number that applies), and what a refused call says and leaves (rule 11.3).
+-- How refusals combine (rule 11.2, in the order of rule 11.4), and what a refused call says and leaves (rule 11.3).
 -- Assumes nothing: these are definitions.
 use Prim.Native.Nat.{ℕ}
 use mathlib.Core.Bool.{Bool, cond}

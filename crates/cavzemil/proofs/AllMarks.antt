@@ -11,9 +11,11 @@ use Rattle.arith.specs.Run.{upto, zeros}
 use Rattle.arith.specs.Sheet.{onSheet}
 use Rattle.arith.specs.Sum.{sumBelow}
 use Rattle.arith.specs.Tally.{tally}
-use Rattle.screen.specs.Screens.{slopeAdmitted, cellsAdmitted, subscreensAdmitted, offsetAdmitted, refusalOf}
+use Rattle.screen.specs.Sizes.{shiftOf}
+use Rattle.screen.specs.Screens.{slopeAdmitted, cellsAdmitted, subscreensAdmitted, offsetAdmitted, numbersRefusal, storedTrue, refusalOf}
 use Rattle.screen.specs.Phase.{phaseOf, placeRefusal, placeOf}
-use Rattle.screen.specs.Brick.{shiftOf, brickOf}
+use Rattle.screen.specs.Brick.{brickOf}
+use Rattle.screen.specs.Made.{madeOf, replacedBy}
 use Rattle.separation.specs.Weights.{weight, scaleOf}
 use Rattle.quantiser.specs.Running.{weightUpTo, level, running, count}
 use Rattle.quantiser.specs.Subscreens.{subscreenSize, subscreenStart, subscreenOf, distanceOf, fillUpTo, colorantAt, colorantOf}
@@ -32,12 +34,21 @@ use Rattle.cavzemil.specs.Cellular.{cellularGiven}
 use Rattle.cavzemil.specs.Marks.{Marks}
 
 pub marks : Marks
-unfolding le every firstBelow gcdOf remainderOf upto zeros sumBelow tally slopeAdmitted cellsAdmitted subscreensAdmitted offsetAdmitted refusalOf onSheet phaseOf placeRefusal placeOf shiftOf brickOf weight scaleOf weightUpTo level running count subscreenSize subscreenStart subscreenOf distanceOf fillUpTo colorantAt colorantOf cellOf windowCell windowCells talliesOf windowRefusal dueIn brickRefusal answerOf firstBad predictRefusal ruled added pricesAdmitted cellsIn windowsAdmitted chargeRefusal costOf charged known separationOf cellGiven renderingGiven outputGiven countsGiven primariesIn valuesRefusal predictionGiven add mul div ofInt ofBits ahead placeAmong ordered total channel fallingCount weightAt setAlong firstBadSet runRefusal cellularRefusal Cells.ruled records cellularGiven
+unfolding le every firstBelow gcdOf remainderOf upto zeros sumBelow tally slopeAdmitted cellsAdmitted subscreensAdmitted offsetAdmitted numbersRefusal storedTrue refusalOf onSheet phaseOf placeRefusal placeOf shiftOf brickOf madeOf replacedBy weight scaleOf weightUpTo level running count subscreenSize subscreenStart subscreenOf distanceOf fillUpTo colorantAt colorantOf cellOf windowCell windowCells talliesOf windowRefusal dueIn brickRefusal answerOf firstBad predictRefusal ruled added pricesAdmitted cellsIn windowsAdmitted chargeRefusal costOf charged known separationOf cellGiven renderingGiven outputGiven countsGiven primariesIn valuesRefusal predictionGiven add mul div ofInt ofBits ahead placeAmong ordered total channel fallingCount weightAt setAlong firstBadSet runRefusal cellularRefusal Cells.ruled records cellularGiven
 marks =
     record {
       placed = refl;
       bricked = refl;
       sloped-brick = refl;
+      made = refl;
+      replaced = refl;
+      handed-back = refl;
+      untrue-cell = refl;
+      untrue-window = refl;
+      untrue-brick = refl;
+      untrue-length = refl;
+      untrue-colour = refl;
+      untrue-cellular = refl;
       zero-demichel = refl;
       one-kueppers = refl;
       counted = refl;
@@ -49,6 +60,7 @@ marks =
       brick-wrong = refl;
       brick-untouched = refl;
       unknown-counts = refl;
+      unknown-untrue = refl;
       unknown-cell = refl;
       unknown-window = refl;
       untouched = refl;

@@ -22,7 +22,7 @@ use Rattle.cavzemil.specs.declared.colours.Prediction.{Prediction}
 use Rattle.cavzemil.specs.Separations.{separationOf, refusedFor}
 use Rattle.cavzemil.specs.Screens.{screenOf}
 
--- ---- `cavzemil_counts_of`: 100, then 1 to 4
+-- ---- `cavzemil_counts_of`: 100, then the screen's
 
 -- the counts of the eight colorants, given the refusal: 0 where there is one (rule 11.3)
 unfoldable pub countsGiven : ℕ → Screens.Screen → Separation → Inks → Counts
@@ -46,7 +46,7 @@ primariesIn values =
     ∷ tripleAt values 7
     ∷ []
 
--- rule 14.4, what is refused before the primaries are read: 1 to 4, then 6 for another length
+-- rule 14.4, what is refused before the primaries are read: the screen's, then 6 for another length
 unfoldable pub valuesRefusal : Screens.Screen → List Float → ℕ
 valuesRefusal s values = orElse (refusalOf s) (unless (eqb (length values) 24) 6 0)
 

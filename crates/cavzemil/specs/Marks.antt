@@ -5,8 +5,10 @@ use mathlib.Core.List.{List, [], _∷_}
 use lib.Ieee.{Float, nan, binary64, ofBits}
 use Rattle.arith.specs.Run.{zeros}
 use Rattle.screen.specs.Marks as Screens
+use Rattle.screen.specs.Screens as Library
 use Rattle.screen.specs.Phase.{placeOf}
 use Rattle.screen.specs.Brick.{brickOf}
+use Rattle.screen.specs.Made.{madeOf, offsetReplaced, cellsReplaced}
 use Rattle.separation.specs.declared.Separation.the-variants.{Demichel, Kueppers}
 use Rattle.separation.specs.Weights.{inksOf}
 use Rattle.separation.specs.Marks.{half}
@@ -17,7 +19,7 @@ use Rattle.bill.specs.Marks.{flat, tint}
 use Rattle.cavzemil.specs.declared.screens.Screen.{Screen}
 use Rattle.cavzemil.specs.declared.windows.Window.{Window}
 use Rattle.cavzemil.specs.Separations.{separationOf}
-use Rattle.cavzemil.specs.Screens.{screenOf, screenLaid, placeLaid, brickLaid}
+use Rattle.cavzemil.specs.Screens.{screenOf, screenLaid, placeLaid, brickLaid, madeLaid}
 use Rattle.cavzemil.specs.Windows.{unrendered, cellAnswer, renderAnswer, renderOutput, brickAnswer, brickOutput}
 use Rattle.cavzemil.specs.Colours.{countsAnswer, colourless, predictAnswer}
 use Rattle.cavzemil.specs.Cellular.{uncoloured, cellularAnswer}
@@ -31,7 +33,11 @@ abbrev pub sloped : Screen
 sloped = screenLaid Screens.sloped
 
 abbrev pub single : Screen
-single = record { a = 1; b = 2; n = 1; k = 1; g = 0 }
+single = screenLaid (Library.screenOf 1 2 1 1 0)
+
+-- rule 12.19's screen, whose stored shift is not true
+abbrev pub untrue : Screen
+untrue = screenLaid (Screens.untrue 2)
 
 -- the place (1, 0), at phase 4
 abbrev pub lone : Window
@@ -47,6 +53,17 @@ pub record Marks : Type 0 where
   pub placed : placeLaid (placeOf (screenOf listed) 3 2) ≡ record { refusal = 0; phase = 103 }
   pub bricked : brickLaid (brickOf (screenOf listed)) ≡ record { refusal = 0; columns = 105; rows = 1; shift = 28 }
   pub sloped-brick : brickLaid (brickOf (screenOf sloped)) ≡ record { refusal = 1; columns = 0; rows = 0; shift = 0 }
+  -- rules 17.2 to 17.4: made, replaced, and handed back
+  pub made : madeLaid (madeOf 4 7 105 2 0) ≡ record { refusal = 0; screen = listed }
+  pub replaced : madeLaid (cellsReplaced (screenOf listed) 70) ≡ record { refusal = 0; screen = screenLaid Screens.tworowed }
+  pub handed-back : madeLaid (offsetReplaced (screenOf untrue) 70) ≡ record { refusal = 15; screen = untrue }
+  -- rule 11.2: 15 before 5, 6, 8, 11 and 14
+  pub untrue-cell : cellAnswer untrue 0 65536 0 half ≡ record { refusal = 15; colorant = 0 }
+  pub untrue-window : renderAnswer untrue 0 lone [] (9 ∷ []) ≡ record { refusal = 15; tallies = zeros 8 }
+  pub untrue-brick : brickAnswer untrue 0 lone (128 ∷ 128 ∷ 0 ∷ []) [] (9 ∷ []) ≡ record { refusal = 15; tallies = zeros 8 }
+  pub untrue-length : predictAnswer untrue 1 half [] ≡ colourless 15 0
+  pub untrue-colour : predictAnswer untrue 1 half magentaUnset ≡ colourless 15 0
+  pub untrue-cellular : cellularAnswer untrue 0 half shorter ≡ uncoloured 15 0
   -- rule 14.3: the two separations
   pub zero-demichel : separationOf 0 ≡ Demichel
   pub one-kueppers : separationOf 1 ≡ Kueppers
@@ -61,6 +78,7 @@ pub record Marks : Type 0 where
   pub brick-untouched : brickOutput single 0 lone (128 ∷ 128 ∷ 0 ∷ []) (1 ∷ []) (9 ∷ []) ≡ 9 ∷ []
   -- rule 14.3: 100, with other refusals beside it
   pub unknown-counts : countsAnswer sloped 2 half ≡ record { refusal = 100; of = zeros 8 }
+  pub unknown-untrue : countsAnswer untrue 2 half ≡ record { refusal = 100; of = zeros 8 }
   pub unknown-cell : cellAnswer sloped 2 65536 0 half ≡ record { refusal = 100; colorant = 0 }
   pub unknown-window : renderAnswer sloped 2 lone [] (9 ∷ []) ≡ record { refusal = 100; tallies = zeros 8 }
   pub untouched : renderOutput sloped 2 lone [] (9 ∷ []) ≡ 9 ∷ []

@@ -50,7 +50,7 @@ abbrev pub cellAnswer : Screen → ℕ → ℕ → ℕ → Inks → Cell
 cellAnswer s separation x y inks =
     cellGiven (refusedFor separation (placeRefusal (screenOf s) x y)) (screenOf s) (separationOf separation) x y inks
 
--- ---- `cavzemil_render`: 100, then 1 to 7
+-- ---- `cavzemil_render`: 100, then the screen's and 5 to 7
 
 abbrev pub renderRefusal : Screen → ℕ → Window → List ℕ → List ℕ → ℕ
 renderRefusal s separation w input out = refusedFor separation (windowRefusal (screenOf s) (windowOf w) (length input) (length out))

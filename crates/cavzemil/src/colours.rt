@@ -52,7 +52,8 @@ pub extern "C" fn cavzemil_counts_of(s: Screen, separation: u32, c: u8, m: u8, y
 }
 
 // The colour that a screen's cells give together for one ink triple. The primaries are 24 values, X, Y
-// and Z of each colorant in turn.
+// and Z of each colorant in turn. Of another number of values the screen is tested here, and otherwise by
+// `predict`.
 #[no_mangle]
 pub extern "C" fn cavzemil_predict(
     s: Screen,
@@ -69,11 +70,11 @@ pub extern "C" fn cavzemil_predict(
     }
     let sep = separation_of(separation);
     let given = screen_of(s);
-    let refused = screen::refusal(given);
-    if refused != 0 {
-        return colourless(refused, 0);
-    }
     if primaries.len() != 24 {
+        let refused = screen::refusal(given);
+        if refused != 0 {
+            return colourless(refused, 0);
+        }
         return colourless(6, 0);
     }
     let eight = primaries_in(primaries);

@@ -5,7 +5,8 @@ ghost use Rattle.screen.specs.Phase.{placeOf};
 ghost use Rattle.screen.specs.Brick.{brickOf, bufferRefusal, filled};
 ghost use Rattle.cavzemil.specs.Screens.{screenOf, placeLaid, brickLaid};
 
-// A screen: the slope a/b, the cell count n, the number of subscreens k and the offset g.
+// A screen: the slope a/b, the cell count n, the number of subscreens k and the offset g; and, stored with
+// them, the columns, the rows and the shift of its brick.
 #[repr(C)]
 pub struct Screen {
     pub a: u32,
@@ -13,6 +14,9 @@ pub struct Screen {
     pub n: u32,
     pub k: u32,
     pub g: u32,
+    pub columns: u32,
+    pub rows: u32,
+    pub shift: u32,
 }
 
 // The phase of a place, or the number of what refuses it.
@@ -31,7 +35,7 @@ pub struct Brick {
     pub shift: u32,
 }
 
-// The library's screen of the same five numbers.
+// The library's screen of the same eight numbers.
 pub(crate) fn screen_of(s: Screen) -> screen::Screen
     ensures { λ r. ⌜ r ≡ screenOf s ⌝ }
 {
@@ -41,6 +45,9 @@ pub(crate) fn screen_of(s: Screen) -> screen::Screen
         n: s.n,
         k: s.k,
         g: s.g,
+        columns: s.columns,
+        rows: s.rows,
+        shift: s.shift,
     }
 }
 

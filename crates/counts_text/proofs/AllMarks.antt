@@ -6,7 +6,8 @@ use Rattle.arith.specs.First.{firstFrom, firstBelow}
 use Rattle.arith.specs.Gcd.{gcdOf}
 use Rattle.arith.specs.Run.{upto}
 use Rattle.arith.specs.Sum.{sumBelow}
-use Rattle.screen.specs.Screens.{refusalOf, slopeAdmitted, cellsAdmitted, subscreensAdmitted, offsetAdmitted}
+use Rattle.screen.specs.Sizes.{shiftOf}
+use Rattle.screen.specs.Screens.{numbersRefusal, storedTrue, refusalOf, slopeAdmitted, cellsAdmitted, subscreensAdmitted, offsetAdmitted}
 use Rattle.separation.specs.Weights.{weight, scaleOf, demichelWeight, kueppersWeight}
 use Rattle.quantiser.specs.Running.{count, running, level, weightUpTo}
 use Rattle.counts_text.specs.Text.{split, same, joined}
@@ -17,7 +18,7 @@ use Rattle.counts_text.specs.Marks.{Marks}
 
 pub marks : Marks
 unfolding
-    every firstFrom firstBelow gcdOf upto sumBelow refusalOf slopeAdmitted cellsAdmitted subscreensAdmitted offsetAdmitted weight scaleOf
+    every firstFrom firstBelow gcdOf upto sumBelow shiftOf numbersRefusal storedTrue refusalOf slopeAdmitted cellsAdmitted subscreensAdmitted offsetAdmitted weight scaleOf
     demichelWeight kueppersWeight count running level weightUpTo split same joined isNumber isNumberTo valueUpTo valueOf numeralIn numeral areNumbers leading
     numbersOver isScreen screenIn isPatch separationIn inksIn screenRefusal patchRefusal lineOf countsLine errorLine lineRefusal firstBad countsLines judged countsText
 marks =

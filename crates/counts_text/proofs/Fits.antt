@@ -14,8 +14,8 @@ use Rattle.arith.proofs.FirstLaws as First
 use Rattle.arith.proofs.RefusalLaws.{unless-none}
 use Rattle.arith.proofs.RunLaws.{upto-length, upto-at}
 use Rattle.screen.specs.declared.Screen.{Screen}
-use Rattle.screen.specs.Screens.{refusalOf, Admitted, slopeAdmitted, cellsAdmitted, subscreensAdmitted, offsetAdmitted}
-use Rattle.screen.proofs.Published.{admitted-words}
+use Rattle.screen.specs.Screens.{screenOf, refusalOf, Admitted}
+use Rattle.screen.proofs.Published.{admitted-words, made-words}
 use Rattle.separation.specs.Laws.{InkValues}
 use Rattle.quantiser.specs.Running.{count}
 use Rattle.quantiser.proofs.Published.{count-within}
@@ -126,17 +126,13 @@ either-limit : (t : Bool) (a b : ℕ) → a ≤ 10 → b ≤ 10 → cond t a b �
 either-limit true a b p q = p
 either-limit false a b p q = q
 
-screen-limit : (s : Screen) → refusalOf s ≤ 10
-unfolding refusalOf
-screen-limit s =
-    either-limit (slopeAdmitted (s .a) (s .b)) _ 1
-    (either-limit (cellsAdmitted (s .n)) _ 2
-    (either-limit (subscreensAdmitted (s .n) (s .k)) _ 3 (either-limit (offsetAdmitted (s .n) (s .g)) 0 4 (lit≤ tt) (lit≤ tt)) (lit≤ tt)) (lit≤ tt))
-    (lit≤ tt)
+-- that of a screen is 1 to 4, since the screen is made
+screen-limit : (a b n k g : ℕ) → refusalOf (screenOf a b n k g) ≤ 10
+screen-limit a b n k g = omega (arith, made-words a b n k g)
 
 first-limit : (line : List ℕ) → screenRefusal line ≤ 10
-unfolding screenRefusal
-first-limit line = either-limit (isScreen line) (refusalOf (screenIn line)) 10 (screen-limit (screenIn line)) (lit≤ tt)
+unfolding screenRefusal screenIn
+first-limit line = either-limit (isScreen line) (refusalOf (screenIn line)) 10 (screen-limit _ _ _ _ _) (lit≤ tt)
 
 later-limit : (line : List ℕ) → patchRefusal line ≤ 10
 unfolding patchRefusal

@@ -82,7 +82,7 @@ inksBy number = inksOf (number 0) (number 1) (number 2)
 unfoldable pub inksIn : List ℕ → Inks
 inksIn line = inksBy (numberAt (drop 2 (fields line)))
 
--- rules 10.8 and 11.4: 10 comes before 1 to 4
+-- rules 10.8 and 11.4: 10 comes before 1 to 4; the screen is made, so that 15 does not occur (`MadeWords`, screen/specs/Laws.antt)
 unfoldable pub screenRefusal : List ℕ → ℕ
 screenRefusal line = unless (isScreen line) 10 (refusalOf (screenIn line))
 

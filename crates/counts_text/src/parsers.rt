@@ -107,17 +107,11 @@ pub(crate) fn screen_line(text: &[u8]) -> ScreenLine
     if !numbers(&line[2..], 99999, &mut of) {
         return ScreenLine::ScreenRefused(10);
     }
-    let s = Screen {
-        a: of[0],
-        b: of[1],
-        n: of[2],
-        k: of[3],
-        g: of[4],
-    };
-    let refused = screen::refusal(s);
-    if refused != 0 {
-        return ScreenLine::ScreenRefused(refused);
+    let made = screen::make(of[0], of[1], of[2], of[3], of[4]);
+    if made.refusal != 0 {
+        return ScreenLine::ScreenRefused(made.refusal);
     }
+    let s = made.screen;
     ScreenLine::ScreenRead(s, end + 1)
 }
 

@@ -9,7 +9,8 @@ use Rattle.arith.specs.Order.{ahead, placeAmong, ordered}
 use Rattle.arith.specs.Run.{upto}
 use Rattle.arith.specs.Sum.{sumBelow}
 use Rattle.arith.specs.Marks.{counted}
-use Rattle.screen.specs.Screens.{slopeAdmitted, cellsAdmitted, subscreensAdmitted, offsetAdmitted, refusalOf}
+use Rattle.screen.specs.Sizes.{shiftOf}
+use Rattle.screen.specs.Screens.{slopeAdmitted, cellsAdmitted, subscreensAdmitted, offsetAdmitted, numbersRefusal, storedTrue, refusalOf}
 use Rattle.screen.specs.Marks.{listed}
 use Rattle.separation.specs.declared.Separation.the-variants.{Demichel, Kueppers}
 use Rattle.separation.specs.Weights.{weight, scaleOf}
@@ -22,7 +23,7 @@ use Rattle.predict.specs.Cellular as Cells
 use Rattle.predict.specs.Marks.{whole, cyan, records, wholeSets, Marks}
 
 pub marks : Marks
-unfolding add mul div le eq ofInt ofBits firstBelow gcdOf sumBelow slopeAdmitted cellsAdmitted subscreensAdmitted offsetAdmitted refusalOf weight scaleOf weightUpTo level running count firstBad total channel predicted predictRefusal ruled upto ahead placeAmong ordered fallingCount weightAt setAlong firstBadSet cellular runRefusal cellularRefusal Cells.ruled records
+unfolding shiftOf add mul div le eq ofInt ofBits firstBelow gcdOf sumBelow slopeAdmitted cellsAdmitted subscreensAdmitted offsetAdmitted numbersRefusal storedTrue refusalOf weight scaleOf weightUpTo level running count firstBad total channel predicted predictRefusal ruled upto ahead placeAmong ordered fallingCount weightAt setAlong firstBadSet cellular runRefusal cellularRefusal Cells.ruled records
 marks =
     record {
       nan-bad = refl;

@@ -3,19 +3,26 @@
 use mathlib.Core.Path.{sym, ap, _∙_}
 use native.Mathlib.Nat.{le-of-eq}
 use native.Mathlib.Omega.{arith}
+use borrow.Author.Tests.{ne-eqb}
 use Rattle.arith.proofs.SumLaws.{sum-alone}
+use Rattle.screen.specs.Screens.{refusalOf}
 use Rattle.screen.proofs.Published.{admitted-words}
 use Rattle.quantiser.specs.Running.{count}
 use Rattle.quantiser.proofs.Published.{counts-add-up}
 use Rattle.predict.specs.Predicted.{primary, colourOf}
+use Rattle.predict.specs.Numbered.{predictRefusal, ruled}
 use Rattle.predict.specs.Cellular as Cellular
 use Rattle.predict.specs.Cellular.{recordOf, weightAt, setAt}
-use Rattle.predict.specs.Laws.{FullTone, SetsNumbered, SetsHold, WeightsAddUp, WeightsDivide, HeldAddUp, CellularFullTone}
+use Rattle.predict.specs.Laws.{RuledRefused, FullTone, SetsNumbered, SetsHold, WeightsAddUp, WeightsDivide, HeldAddUp, CellularFullTone}
 use Rattle.predict.proofs.Steps.{bad-none, predicted-mean}
 use Rattle.predict.proofs.WholeLaws.{mean-whole}
 use Rattle.predict.proofs.CellularLaws as CellularLaws
 use Rattle.predict.proofs.CellularSteps.{no-bad-set, cellular-mean}
 pub use Rattle.predict.proofs.WholeLaws.{whole-itself}
+
+pub ruled-refused : RuledRefused
+unfolding ruled predictRefusal
+ruled-refused s sep inks ps h = rw (ne-eqb (refusalOf s) 0 h, ne-eqb (refusalOf s) 0 h)
 
 pub full-tone : FullTone
 full-tone s ok sep inks v ps good h l all x y z wx wy wz =

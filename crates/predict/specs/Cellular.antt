@@ -85,7 +85,7 @@ numberedOf (Colour x y z) = coloured x y z
 numberedOf (BadSet t) = refusedAs 11 t
 numberedOf (Refused number) = refusedAs number 0
 
--- rules 11.4, 11.15 and 11.18: 14, after 1 to 4, and then 11
+-- rules 11.4, 11.15 and 11.18: 14, after the screen's, and then 11
 unfoldable pub runRefusal : Screen → List Float → ℕ
 runRefusal s values = orElse (refusalOf s) (unless (eqb (length values) valuesDue) 14 0)
 

@@ -10,13 +10,23 @@ use lib.IntN.{pos}
 use lib.Ieee.{Float, fin, binary64, eq, ofInt, fits}
 use lib.ListN.{length}
 use Rattle.arith.specs.Sum.{sumBelow}
+use Rattle.screen.specs.declared.Screen.{Screen}
+use Rattle.screen.specs.Screens.{refusalOf}
+use Rattle.separation.specs.declared.Separation.{Separation}
+use Rattle.separation.specs.declared.Inks.{Inks}
 use Rattle.quantiser.specs.Running.{count}
 use Rattle.quantiser.specs.Laws.{Always}
 use Rattle.predict.specs.declared.Xyz.{Xyz}
 use Rattle.predict.specs.declared.Prediction.the-variants.{Colour}
 use Rattle.predict.specs.declared.cellular.Cellular.the-variants as Cellular
 use Rattle.predict.specs.Predicted.{primary, admitted, predicted}
+use Rattle.predict.specs.Numbered.{refusedAs, ruled}
 use Rattle.predict.specs.Cellular.{holds, valuesDue, recordOf, orderOf, weightAt, setAt, cellular}
+
+-- rule 9.5: a screen that is refused is answered by its refusal alone, whatever the primaries are
+abbrev pub RuledRefused : Type 0
+RuledRefused =
+    (s : Screen) (sep : Separation) (inks : Inks) (ps : List Xyz) → (refusalOf s ≡ 0 → ⊥) → ruled s sep inks ps ≡ refusedAs (refusalOf s) 0
 
 -- ---- the mean of the primaries
 

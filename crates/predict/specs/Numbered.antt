@@ -37,7 +37,7 @@ numberedOf (Colour x y z) = coloured x y z
 numberedOf (BadPrimary j) = refusedAs 11 j
 numberedOf (BadScreen number) = refusedAs number 0
 
--- rules 11.4 and 11.15: 11, after 1 to 4
+-- rules 11.4 and 11.15: 11, after the screen's
 unfoldable pub predictRefusal : Screen → List Xyz → ℕ
 predictRefusal s ps = orElse (refusalOf s) (cond (ltb (firstBad ps) 8) 11 0)
 

@@ -1,7 +1,7 @@
 // Prints what `predict` and `predict_cellular` answer, their values as the 16 hexadecimal digits of their
 // bits. Of both: full tones, negative zeros, values that do not add up exactly, good and bad values beside
-// the limits, bad screens, and mixed cases. Of the second also: ink values in every order, equal counts, and runs
-// of the right length and of others. The file stdout holds what this must print.
+// the limits, bad screens, stored numbers that are wrong, and mixed cases. Of the second also: ink values in every
+// order, equal counts, and runs of the right length and of others. The file stdout holds what this must print.
 ghost use Prim.Native.Nat.{_<_};
 use predict::Cellular;
 use predict::Prediction;
@@ -33,6 +33,7 @@ fn main() {
     set_places(unevens);
     refusals(&unevens, &bad);
     mixed(&unevens);
+    stored(&unevens, &bad);
 }
 
 fn good_values(wholes: &[f64], unevens: &[f64], smalls: &[f64]) {
@@ -246,6 +247,19 @@ fn refused(s: Screen, unevens: &[f64], bad: &[f64]) {
     show_length(b"set 1 x = -1", s, bad, 766);
 }
 
+// Refusal 15 of each stored number, in the same calls; and 3 before it.
+fn stored(unevens: &[f64], bad: &[f64]) {
+    refused_storing(record_of(4, 7, 105, 2, 0, 106, 1, 28), unevens, bad);
+    refused_storing(record_of(4, 7, 105, 2, 0, 105, 2, 28), unevens, bad);
+    refused_storing(record_of(4, 7, 105, 2, 0, 105, 1, 133), unevens, bad);
+    refused_storing(record_of(4, 7, 105, 17, 0, 105, 1, 133), unevens, bad);
+}
+
+fn refused_storing(s: Screen, unevens: &[f64], bad: &[f64]) {
+    show_stored(s);
+    refused(s, unevens, bad);
+}
+
 // Screens, ink values and primaries that are drawn one from the other, from each start, and from every
 // second one records that begin at a drawn place.
 fn mixed(unevens: &[f64]) {
@@ -409,13 +423,34 @@ fn xyz_of(x: f64, y: f64, z: f64) -> Xyz {
     Xyz { x: x, y: y, z: z }
 }
 
+// A screen that stores the numbers of its brick or, where 1 to 4 refuse it, zeros.
 fn screen_of(a: u32, b: u32, n: u32, k: u32, g: u32) -> Screen {
+    let made = screen::make(a, b, n, k, g);
+    if made.refusal != 0 {
+        return record_of(a, b, n, k, g, 0, 0, 0);
+    }
+    made.screen
+}
+
+fn record_of(
+    a: u32,
+    b: u32,
+    n: u32,
+    k: u32,
+    g: u32,
+    columns: u32,
+    rows: u32,
+    shift: u32,
+) -> Screen {
     Screen {
         a: a,
         b: b,
         n: n,
         k: k,
         g: g,
+        columns: columns,
+        rows: rows,
+        shift: shift,
     }
 }
 
@@ -557,6 +592,15 @@ fn show_separation(sep: Separation) {
             io::write_all(1, b"kueppers");
         }
     }
+}
+
+// The heading of what is shown of a screen that stores these numbers.
+fn show_stored(s: Screen) {
+    io::write_all(1, b"# stored ");
+    number(s.columns);
+    spaced(s.rows);
+    spaced(s.shift);
+    io::write_all(1, b"\n");
 }
 
 fn show_screen(s: Screen) {

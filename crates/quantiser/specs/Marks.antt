@@ -1,4 +1,4 @@
--- Rules 12.1 to 12.6, the worked examples up to here in one statement, and two small cases of the laws. proofs/AllMarks.antt shows them
+-- Rules 12.1 to 12.6, 12.18 and 12.19, the worked examples up to here in one statement, and two small cases of the laws. proofs/AllMarks.antt shows them
 -- by computing the definitions.
 -- Assumes nothing: these are statements.
 use mathlib.Core.Path.{_≡_}
@@ -15,7 +15,7 @@ use Rattle.quantiser.specs.Subscreens.{subscreenSize, colorantOf, phases
 use Rattle.quantiser.specs.Laws.{ShareRounded, SplitEvenly}
 
 pub record Marks : Type 0 where
-  -- rules 12.1 and 12.2: the bricks of three screens and the phases 98 and 103
+  -- rules 12.1, 12.2, 12.18 and 12.19: the bricks of three screens, the phases 98 and 103, and stored numbers
   pub screens : Screens.Marks
   -- rule 12.3
   pub first-p : upto (count listed Demichel half) 8 ≡ 26 ∷ 26 ∷ 0 ∷ 27 ∷ 0 ∷ 0 ∷ 0 ∷ 26 ∷ []

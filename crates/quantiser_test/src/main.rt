@@ -1,6 +1,6 @@
 // Prints what the calls of `separation` and `quantiser` answer: the worked examples of the rules, both
-// separations at the corners, each limit of the screen, tables of thresholds, the colorants of
-// phases, and mixed cases. The file stdout holds what this must print.
+// separations at the corners, each limit of the screen, stored numbers that are wrong, tables of
+// thresholds, the colorants of phases, and mixed cases. The file stdout holds what this must print.
 ghost use Prim.Native.Nat.{_<_};
 use screen::Screen;
 use separation::Inks;
@@ -19,11 +19,13 @@ fn main() {
     marks();
     cells_and_subscreens();
     refused();
+    stored_counts();
     io::write_all(
         1,
         b"# a b n k g, places: refusal; the table, every place 65535 before\n",
     );
     tables();
+    stored_tables();
     io::write_all(
         1,
         b"# a b n k g, separation, c m y: the colorant of each phase\n",
@@ -131,6 +133,21 @@ fn refused() {
     show_both(screen_of(4, 7, 5, 6, 5), inks);
 }
 
+// Refusal 15: each stored number wrong by itself, and all of them; and 3, which comes first.
+fn stored_counts() {
+    show_both_storing(record_of(4, 7, 105, 2, 0, 105, 1, 28));
+    show_both_storing(record_of(4, 7, 105, 2, 0, 104, 1, 28));
+    show_both_storing(record_of(4, 7, 105, 2, 0, 105, 2, 28));
+    show_both_storing(record_of(4, 7, 105, 2, 0, 105, 1, 133));
+    show_both_storing(record_of(4, 7, 105, 2, 0, 35, 2, 21));
+    show_both_storing(record_of(4, 7, 105, 17, 0, 105, 1, 133));
+}
+
+fn show_both_storing(s: Screen) {
+    show_stored(s);
+    show_both(s, inks_of(51, 102, 204));
+}
+
 // Tables of n - 1, n and n + 1 places, of none, and of n places for refused screens.
 fn tables() {
     let s = screen_of(4, 7, 20, 3, 0);
@@ -149,6 +166,19 @@ fn tables() {
     show_table(screen_of(4, 7, 20, 17, 0), 20);
     show_table(screen_of(4, 7, 20, 3, 20), 20);
     show_table(screen_of(4, 7, 20, 3, 20), 19);
+}
+
+// Refusal 15 before 8, and 4 before it.
+fn stored_tables() {
+    show_table_storing(record_of(4, 7, 20, 3, 0, 5, 4, 2), 20);
+    show_table_storing(record_of(4, 7, 20, 3, 0, 5, 4, 7), 20);
+    show_table_storing(record_of(4, 7, 20, 3, 0, 5, 4, 7), 19);
+    show_table_storing(record_of(4, 7, 20, 3, 20, 5, 4, 7), 19);
+}
+
+fn show_table_storing(s: Screen, places: usize) {
+    show_stored(s);
+    show_table(s, places);
 }
 
 // Where each colorant stands: the screens of rules 12.1 to 12.6, k equal to n, and k of 16.
@@ -229,13 +259,34 @@ fn upper(n: u32) -> u32 {
     n / 65536
 }
 
+// A screen that stores the numbers of its brick or, where 1 to 4 refuse it, zeros.
 fn screen_of(a: u32, b: u32, n: u32, k: u32, g: u32) -> Screen {
+    let made = screen::make(a, b, n, k, g);
+    if made.refusal != 0 {
+        return record_of(a, b, n, k, g, 0, 0, 0);
+    }
+    made.screen
+}
+
+fn record_of(
+    a: u32,
+    b: u32,
+    n: u32,
+    k: u32,
+    g: u32,
+    columns: u32,
+    rows: u32,
+    shift: u32,
+) -> Screen {
     Screen {
         a: a,
         b: b,
         n: n,
         k: k,
         g: g,
+        columns: columns,
+        rows: rows,
+        shift: shift,
     }
 }
 
@@ -372,6 +423,15 @@ fn show_separation(sep: Separation) {
             io::write_all(1, b"kueppers");
         }
     }
+}
+
+// The heading of what is shown of a screen that stores these numbers.
+fn show_stored(s: Screen) {
+    io::write_all(1, b"# stored ");
+    number(s.columns);
+    spaced(s.rows);
+    spaced(s.shift);
+    io::write_all(1, b"\n");
 }
 
 fn show_screen(s: Screen) {

@@ -9,7 +9,8 @@ use Rattle.arith.specs.Run.{upto, zeros}
 use Rattle.arith.specs.Sum.{sumBelow}
 use Rattle.arith.specs.Tally.{tally}
 use Rattle.arith.specs.Sheet.{onSheet}
-use Rattle.screen.specs.Screens.{slopeAdmitted, cellsAdmitted, subscreensAdmitted, offsetAdmitted, refusalOf}
+use Rattle.screen.specs.Sizes.{shiftOf}
+use Rattle.screen.specs.Screens.{slopeAdmitted, cellsAdmitted, subscreensAdmitted, offsetAdmitted, numbersRefusal, storedTrue, refusalOf}
 use Rattle.screen.specs.Phase.{phaseOf}
 use Rattle.separation.specs.Weights.{weight, scaleOf}
 use Rattle.quantiser.specs.Running.{weightUpTo, level, running, count}
@@ -20,7 +21,7 @@ use Rattle.render.specs.Finished.{bytesInSubscreen}
 use Rattle.render.specs.Marks.{Marks}
 
 pub marks : Marks
-unfolding gcdOf remainderOf firstBelow every upto zeros sumBelow tally onSheet slopeAdmitted cellsAdmitted subscreensAdmitted offsetAdmitted refusalOf phaseOf weight scaleOf weightUpTo level running count subscreenSize subscreenStart subscreenOf distanceOf fillUpTo colorantAt colorantOf cellOf windowCell windowCells talliesOf windowRefusal dueIn brickRefusal answerOf rendering rendered brickRendering brickRendered bytesInSubscreen
+unfolding shiftOf gcdOf remainderOf firstBelow every upto zeros sumBelow tally onSheet slopeAdmitted cellsAdmitted subscreensAdmitted offsetAdmitted numbersRefusal storedTrue refusalOf phaseOf weight scaleOf weightUpTo level running count subscreenSize subscreenStart subscreenOf distanceOf fillUpTo colorantAt colorantOf cellOf windowCell windowCells talliesOf windowRefusal dueIn brickRefusal answerOf rendering rendered brickRendering brickRendered bytesInSubscreen
 marks =
     record {
       written = refl;

@@ -20,7 +20,7 @@ use Rattle.render.specs.declared.Rendering.{Rendering}
 use Rattle.render.specs.declared.Cell.{Cell}
 use Rattle.render.specs.Windows.{area, cellOf, windowCells, talliesOf}
 
--- Refusals of a window on a screen with input and output of the given lengths: 1 to 4; 5, off the sheet (rule 11.9); 6 and 7, the
+-- Refusals of a window on a screen with input and output of the given lengths: the screen's; 5, off the sheet (rule 11.9); 6 and 7, the
 -- lengths (rules 11.10 and 11.11).
 unfoldable pub windowRefusal : Screen → Window → ℕ → ℕ → ℕ
 windowRefusal s w inputs outputs =

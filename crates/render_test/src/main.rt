@@ -1,6 +1,6 @@
 // Prints what the calls of `render` answer, both renderers called alike: patches on whole bricks, pixels
 // of their own ink values, each refusal beside what is admitted, empty windows, the sheet's last places,
-// lone places, and mixed cases. The file stdout holds what this must print.
+// lone places, mixed cases, and stored numbers that are wrong. The file stdout holds what this must print.
 ghost use Prim.Native.Nat.{_≤_};
 use render::Rendering;
 use render::Window;
@@ -45,11 +45,13 @@ fn main() {
     empty();
     last_places();
     mixed(5);
+    stored_windows();
     io::write_all(
         1,
         b"# a b n k g, x y, c m y: refusal and colorant by Demichel, by Kueppers\n",
     );
     lone_places();
+    stored_places();
 }
 
 // The screens of rules 12.1 to 12.6 and small ones, in one colour on whole bricks; and no ink.
@@ -207,6 +209,40 @@ fn lone_places() {
     show_cell(screen_of(4, 7, 70, 2, 70), 3, 2, inks);
 }
 
+// Refusal 15 of each stored number, before 5, 6, 7 and 8, which meet in the last windows; and 4 before it.
+fn stored_windows() {
+    let on = window_of(8, 9, 3, 2);
+    let lent = lent_for(on);
+    show_storing(record_of(4, 7, 70, 2, 5, 35, 2, 21), on, lent);
+    show_storing(record_of(4, 7, 70, 2, 5, 36, 2, 21), on, lent);
+    show_storing(record_of(4, 7, 70, 2, 5, 35, 1, 21), on, lent);
+    show_storing(record_of(4, 7, 70, 2, 5, 35, 2, 56), on, lent);
+    show_storing(record_of(4, 7, 70, 2, 70, 35, 2, 56), on, lent);
+    let shifted = record_of(4, 7, 70, 2, 5, 35, 2, 56);
+    show_storing(shifted, on, lent_of(17, 6, 70, 106));
+    show_storing(shifted, on, lent_of(18, 5, 70, 106));
+    show_storing(shifted, on, lent_of(18, 6, 69, 106));
+    show_storing(shifted, window_of(65536, 9, 3, 2), lent_of(17, 5, 69, 106));
+}
+
+fn show_storing(s: Screen, w: Window, lent: Lent) {
+    show_stored(s);
+    show_lent(s, w, lent);
+}
+
+// Refusal 15 before 5, and 4 before it.
+fn stored_places() {
+    show_cell_storing(record_of(4, 7, 105, 2, 0, 105, 1, 28), 3, 2);
+    show_cell_storing(record_of(4, 7, 105, 2, 0, 105, 1, 27), 3, 2);
+    show_cell_storing(record_of(4, 7, 105, 2, 0, 105, 1, 27), 65536, 0);
+    show_cell_storing(record_of(4, 7, 105, 2, 105, 105, 1, 27), 65536, 0);
+}
+
+fn show_cell_storing(s: Screen, x: u32, y: u32) {
+    show_stored(s);
+    show_cell(s, x, y, inks_of(128, 128, 0));
+}
+
 // Screens, windows and ink values, drawn one from the other.
 fn mixed(cases: u32) {
     let mut last = 1;
@@ -264,13 +300,34 @@ fn upper(n: u32) -> u32 {
     n / 65536
 }
 
+// A screen that stores the numbers of its brick or, where 1 to 4 refuse it, zeros.
 fn screen_of(a: u32, b: u32, n: u32, k: u32, g: u32) -> Screen {
+    let made = screen::make(a, b, n, k, g);
+    if made.refusal != 0 {
+        return record_of(a, b, n, k, g, 0, 0, 0);
+    }
+    made.screen
+}
+
+fn record_of(
+    a: u32,
+    b: u32,
+    n: u32,
+    k: u32,
+    g: u32,
+    columns: u32,
+    rows: u32,
+    shift: u32,
+) -> Screen {
     Screen {
         a: a,
         b: b,
         n: n,
         k: k,
         g: g,
+        columns: columns,
+        rows: rows,
+        shift: shift,
     }
 }
 
@@ -526,6 +583,15 @@ fn show_colorant(s: Screen, sep: Separation, x: u32, y: u32, inks: Inks) {
     let cell = render::cell_at(s, sep, x, y, inks);
     number(cell.refusal);
     spaced(cell.colorant);
+}
+
+// The heading of what is shown of a screen that stores these numbers.
+fn show_stored(s: Screen) {
+    io::write_all(1, b"# stored ");
+    number(s.columns);
+    spaced(s.rows);
+    spaced(s.shift);
+    io::write_all(1, b"\n");
 }
 
 fn show_screen(s: Screen) {

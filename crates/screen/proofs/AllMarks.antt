@@ -8,13 +8,15 @@ use Rattle.arith.specs.Run.{upto}
 use Rattle.arith.specs.Sum.{sumBelow}
 use Rattle.arith.specs.Sheet.{onSheet}
 use Rattle.screen.specs.Marks.{Marks}
-use Rattle.screen.specs.Screens.{slopeAdmitted, cellsAdmitted, subscreensAdmitted, offsetAdmitted, refusalOf}
+use Rattle.screen.specs.Sizes.{shiftOf}
+use Rattle.screen.specs.Screens.{slopeAdmitted, cellsAdmitted, subscreensAdmitted, offsetAdmitted, numbersRefusal, storedTrue, refusalOf}
 use Rattle.screen.specs.Phase.{phaseOf, placeRefusal}
-use Rattle.screen.specs.Brick.{shiftOf, brickPhases, bufferRefusal, filled, brickPlace}
+use Rattle.screen.specs.Brick.{brickOf, brickPhases, bufferRefusal, filled, brickPlace}
+use Rattle.screen.specs.Made.{madeOf, replacedBy}
 use Rattle.screen.specs.Laws.{times}
 
 pub marks : Marks
-unfolding gcdOf remainderOf firstBelow upto sumBelow onSheet slopeAdmitted cellsAdmitted subscreensAdmitted offsetAdmitted refusalOf phaseOf placeRefusal shiftOf brickPhases bufferRefusal filled brickPlace times
+unfolding gcdOf remainderOf firstBelow upto sumBelow onSheet slopeAdmitted cellsAdmitted subscreensAdmitted offsetAdmitted numbersRefusal storedTrue refusalOf phaseOf placeRefusal shiftOf brickOf brickPhases bufferRefusal filled brickPlace madeOf replacedBy times
 marks =
     record {
       brick-105 = (refl, refl, refl);
@@ -28,4 +30,21 @@ marks =
       once = refl;
       lowest-3 = refl;
       lowest-1 = refl;
+      made = refl;
+      cells-70 = refl;
+      cells-1 = refl;
+      cells-40 = refl;
+      offset-70 = refl;
+      subscreens-17 = refl;
+      list = refl;
+      unmade = refl;
+      untrue-shift = refl;
+      untrue-3 = refl;
+      untrue-5 = refl;
+      untrue-8 = refl;
+      untrue-brick = refl;
+      untrue-back = refl;
+      untrue-columns = refl;
+      untrue-rows = refl;
+      untrue-far = refl;
     }

@@ -3,7 +3,7 @@
 use Prim.Native.Nat.{ℕ, zero, suc, _+_, _-_, _*_, _/_, _%_, _≤_, _<_, _∣_}
 use mathlib.Core.Path.{_≡_, sym, ap, ap₂, _∙_}
 use mathlib.Core.Bool.{Bool}
-use native.Mathlib.Nat.{pos-of-ne-zero, le-of-dvd, lt-of-lt-of-le, div-le-self, mul-zero, mul-suc, mul-comm, mul-sub, add-zero, add-assoc, one-mul, mod-lt, mod-eq-of-lt, mod-mod-of-dvd, mod-add-div, div-add-mod', div-lt-iff-lt-mul, mul-div-cancel', dvd-mul-right, dvd-mul-right-of-dvd, dvd-of-mul-dvd-mul-left, add-mul-mod-self-left}
+use native.Mathlib.Nat.{dvd-antisymm, dvd-of-mod-eq-zero, mod-eq-zero-of-dvd, pos-of-ne-zero, le-of-dvd, lt-of-lt-of-le, div-le-self, mul-zero, mul-suc, mul-comm, mul-sub, add-zero, add-assoc, one-mul, mod-lt, mod-eq-of-lt, mod-mod-of-dvd, mod-add-div, div-add-mod', div-lt-iff-lt-mul, mul-div-cancel', dvd-mul-right, dvd-mul-right-of-dvd, dvd-of-mul-dvd-mul-left, add-mul-mod-self-left}
 use native.Mathlib.Omega.{arith}
 use lib.Dec.{eqb}
 use borrow.Author.Tests.{eq-eqb, eqb-true}
@@ -11,13 +11,13 @@ use Rattle.arith.specs.Gcd.{gcdOf}
 use Rattle.arith.specs.Remainder.{remainderOf}
 use Rattle.arith.specs.First.{firstBelow}
 use Rattle.arith.specs.Sum.{sumBelow, indicator}
-use Rattle.arith.proofs.GcdLaws.{gcd-divides, gcd-scaled, gcd-pos, gcd-reduced}
+use Rattle.arith.proofs.GcdLaws.{gcd-divides, gcd-scaled, gcd-greatest, gcd-pos, gcd-reduced}
 use Rattle.arith.proofs.RemainderLaws.{same-remainder, below-divisor, remainder-plus, remainder-minus, remainder-multiple, remainder-scaled, remainder-words, remainder-same, remainder-crossed}
 use Rattle.arith.proofs.SumLaws.{sum-same, sum-places, sum-window, each-once}
 use Rattle.arith.proofs.Residues.{residue-once}
 use Rattle.arith.proofs.FirstLaws.{first-found, first-counted, first-passes}
 use Rattle.screen.specs.Phase.{phaseOf}
-use Rattle.screen.specs.Brick.{rowsOf, columnsOf, shiftOf}
+use Rattle.screen.specs.Sizes.{rowsOf, columnsOf, shiftOf}
 use Rattle.screen.proofs.PhaseLaws.{phase-below, steps-right}
 
 -- ---- size
@@ -91,6 +91,21 @@ module _ (a b n : ℕ) (pos : 0 < n) where
 
   pub shift-only : (t : ℕ) → t < columnsOf a n → a * t % n ≡ b * rowsOf a n % n → t ≡ shiftOf a b n
   shift-only t l e = column-only a n pos t (shiftOf a b n) l shift-below (e ∙ sym shift-words)
+
+-- ---- size and shift, told without working them out
+
+-- Rows that divide a and n, with a shift that fits their equation, are H: what divides a and n divides b times the rows by that
+-- equation, and has no divisor above 1 in common with b.
+pub rows-only : (a b n h l t : ℕ) → gcdOf a b ≡ 1 → h ∣ a → h * l ≡ n → a * t % n ≡ b * h % n → h ≡ rowsOf a n
+rows-only a b n h l t unit h∣a whole e =
+    let d : ℕ = rowsOf a n in
+    let d∣a : d ∣ a = gcd-divides a n .0 in
+    let d∣n : d ∣ n = gcd-divides a n .1 in
+    let h∣n : h ∣ n = rw whole at (dvd-mul-right h l) in
+    let left : a * t % d ≡ 0 = mod-eq-zero-of-dvd d (dvd-mul-right-of-dvd d d∣a t) in
+    let right : b * h % d ≡ 0 = sym (mod-mod-of-dvd d (b * h) d∣n) ∙ ap (λ (z : ℕ). z % d) (sym e) ∙ mod-mod-of-dvd d (a * t) d∣n ∙ left in
+    let d∣h : d ∣ h = rw (unit, one-mul) at (gcd-scaled d h a b (dvd-mul-right-of-dvd d d∣a h) (dvd-of-mod-eq-zero d right)) in
+    dvd-antisymm (gcd-greatest h a n h∣a h∣n) d∣h
 
 -- ---- places with the same phase
 

@@ -10,7 +10,8 @@ use lib.Arith.{digits-div, digits-mod}
 use Rattle.arith.specs.Run.{upto}
 use Rattle.arith.proofs.RunLaws.{upto-store, upto-over}
 use Rattle.screen.specs.Phase.{phaseOf}
-use Rattle.screen.specs.Brick.{columnsOf, phaseAtPlace}
+use Rattle.screen.specs.Sizes.{columnsOf}
+use Rattle.screen.specs.Brick.{phaseAtPlace}
 use Rattle.screen.proofs.PhaseLaws.{phase-below, phase-only, step-right, step-down}
 use Rattle.screen.proofs.BrickLaws.{columns-pos, period-times}
 

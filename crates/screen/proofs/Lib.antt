@@ -5,3 +5,4 @@ mod PhaseLaws
 mod BrickLaws
 mod ShiftLoop
 mod FillLoop
+mod MadeLaws

@@ -1,7 +1,7 @@
 -- The laws of specs/Laws.antt, proved: those over plain numbers (PhaseLaws, BrickLaws), at an admitted screen's numbers.
 -- Assumes nothing.
 use Prim.Native.Nat.{ℕ, _+_, _*_, _/_, _<_}
-use mathlib.Core.Path.{_≡_, sym, ap₂, _∙_, subst}
+use mathlib.Core.Path.{_≡_, refl, sym, ap₂, _∙_, subst}
 use mathlib.Core.List.{_++_}
 use native.Mathlib.Nat.{mul-one, mod-lt, le-trans, le-of-eq}
 use lib.ListN.{length, drop, List·getD-append}
@@ -9,13 +9,16 @@ use lib.Arith.{digits-lt, digits-div, digits-mod}
 use Rattle.arith.proofs.RemainderLaws.{remainder-below}
 use Rattle.arith.proofs.RunLaws.{upto-length, upto-at, upto-over}
 use Rattle.screen.specs.declared.Screen.{Screen}
+use Rattle.screen.specs.declared.bricks.Brick.{Brick}
 use Rattle.screen.specs.Screens.{Admitted, Limits}
 use Rattle.screen.specs.Phase.{phase}
 use Rattle.screen.specs.Brick.{rows, columns, shift, brickPhases, brickPlace, filled}
-use Rattle.screen.specs.Laws.{AdmittedWords, PhaseBelow, PhaseWords, PhaseOnly, StepsRight, StepRight, StepDown, PlaceOnSheet, BrickSize, PeriodRight, ShiftWords, ShiftOnly, ShiftLaw, BrickAnswered, FilledIsTrue, ReadFromBrick, BufferRefused, times, EachPhaseOnce, EachPhaseTimes}
+use Rattle.screen.specs.Made.{madeOf}
+use Rattle.screen.specs.Laws.{AdmittedWords, PhaseBelow, PhaseWords, PhaseOnly, StepsRight, StepRight, StepDown, PlaceOnSheet, BrickSize, PeriodRight, ShiftWords, ShiftOnly, ShiftLaw, BrickAnswered, FilledIsTrue, ReadFromBrick, BufferRefused, times, EachPhaseOnce, EachPhaseTimes, MadeWords, MadeAdmitted, ReplacedAdmitted, RefusedKeeps, OffsetKeeps, SubscreensKeep, CellsKeep, TrueThroughout}
 use Rattle.screen.proofs.Refusals as Refusals
 use Rattle.screen.proofs.PhaseLaws as PhaseLaws
 use Rattle.screen.proofs.BrickLaws as BrickLaws
+use Rattle.screen.proofs.MadeLaws as MadeLaws
 
 pub admitted-words : AdmittedWords
 admitted-words = Refusals.admitted-words
@@ -68,7 +71,10 @@ pub shift-law : ShiftLaw
 shift-law s e = BrickLaws.shifted _ _ _ _ (limits e .cells-above)
 
 pub brick-answered : BrickAnswered
-brick-answered s e = sym (Refusals.brick-whole s e)
+brick-answered s e =
+    let stored = Refusals.stored-kept s e in
+    let same : _≡_ {A = Brick} (record { refusal = 0; columns = s .columns; rows = s .rows; shift = s .shift }) (record { refusal = 0; columns = columns s; rows = rows s; shift = shift s }) = rw (stored .columns-true, stored .rows-true, stored .shift-true) in
+    sym (Refusals.brick-whole s e) ∙ same
 
 -- a place within the brick is one of its first N
 place-below : (s : Screen) → Admitted s → (u v : ℕ) → u < columns s → v < rows s → v * columns s + u < s .n
@@ -106,3 +112,31 @@ each-phase-once s e = BrickLaws.phase-once _ _ _ _ (limits e .slope-lowest) (lim
 pub each-phase-times : EachPhaseTimes
 unfolding times
 each-phase-times s e = BrickLaws.phase-times _ _ _ _ (limits e .slope-lowest) (limits e .cells-above)
+
+-- ---- making and replacing
+
+pub made-words : MadeWords
+made-words = MadeLaws.made-words
+
+pub made-admitted : MadeAdmitted
+made-admitted = MadeLaws.made-admitted
+
+pub replaced-admitted : ReplacedAdmitted
+replaced-admitted = MadeLaws.replaced-admitted
+
+pub refused-keeps : RefusedKeeps
+refused-keeps = MadeLaws.replaced-refused
+
+pub offset-keeps : OffsetKeeps
+offset-keeps s g e = MadeLaws.served-screen s (s .n) (s .k) g e ∙ MadeLaws.brick-stays s (s .n) (s .k) g (MadeLaws.served-parts s (s .n) (s .k) g e .0) refl
+
+pub subscreens-keep : SubscreensKeep
+subscreens-keep s k e = MadeLaws.served-screen s (s .n) k (s .g) e ∙ MadeLaws.brick-stays s (s .n) k (s .g) (MadeLaws.served-parts s (s .n) k (s .g) e .0) refl
+
+pub cells-keep : CellsKeep
+cells-keep s n e = MadeLaws.served-screen s n (s .k) (s .g) e
+
+pub true-throughout : TrueThroughout
+true-throughout a b n k g e rs =
+    let ok = MadeLaws.all-admitted rs (madeOf a b n k g .screen) (MadeLaws.made-admitted a b n k g e) in
+    (Refusals.stored-kept _ ok, ok)

@@ -6,7 +6,7 @@ use native.Mathlib.Nat.{mul-zero, zero-mod, mod-lt, mod-add-mod, add-mod-mod}
 use native.Mathlib.Omega.{arith}
 use borrow.Author.Tests.{eq-eqb, ne-eqb}
 use Rattle.arith.proofs.FirstLaws.{first-ahead, first-reached}
-use Rattle.screen.specs.Brick.{rowsOf, columnsOf, shiftOf}
+use Rattle.screen.specs.Sizes.{rowsOf, columnsOf, shiftOf}
 use Rattle.screen.proofs.BrickLaws.{shift-below}
 
 -- t columns on, the row has come to the remainder `reached`

@@ -1,33 +1,20 @@
--- Rules 3.1 to 3.9: a brick's size and shift, its buffer, and where a place's phase stands in it.
+-- Rules 3.4 to 3.9: the brick of a screen, its buffer, and where a place's phase stands in it. Its size and shift are in Sizes.antt.
 -- Assumes nothing: these are definitions.
 use Prim.Native.Nat.{ℕ, _+_, _*_, _/_, _%_, _≤_, _<_}
 use mathlib.Core.Path.{_≡_}
 use mathlib.Core.List.{List}
 use lib.ListN.{length, getD}
-use lib.Dec.{leb, eqb}
-use Rattle.arith.specs.Gcd.{gcdOf}
+use lib.Dec.{leb}
 use Rattle.arith.specs.Remainder.{remainderOf}
-use Rattle.arith.specs.First.{firstBelow}
 use Rattle.arith.specs.Run.{upto}
 use Rattle.arith.specs.Refusal.{unless, orElse, answered, written}
 use Rattle.screen.specs.declared.Screen.{Screen}
 use Rattle.screen.specs.declared.bricks.Brick.{Brick}
+use Rattle.screen.specs.Sizes.{rowsOf, columnsOf, shiftOf}
 use Rattle.screen.specs.Screens.{refusalOf, Admitted}
 use Rattle.screen.specs.Phase.{phaseOf, phase}
 
--- rule 3.1: the rows H
-abbrev pub rowsOf : ℕ → ℕ → ℕ
-rowsOf a n = gcdOf a n
-
--- rule 3.2: the columns L
-abbrev pub columnsOf : ℕ → ℕ → ℕ
-columnsOf a n = n / rowsOf a n
-
--- Rule 3.3, the shift S: the first number below L that leads as far along a row as H rows lead down. That there is exactly one is
--- `ShiftOnly` (Laws.antt).
-unfoldable pub shiftOf : ℕ → ℕ → ℕ → ℕ
-shiftOf a b n = firstBelow (columnsOf a n) (λ t. eqb (a * t % n) (b * rowsOf a n % n))
-
+-- what rules 3.1 to 3.3 give for a screen's numbers; an admitted screen stores the same (`AdmittedWords`, Laws.antt)
 abbrev pub rows : Screen → ℕ
 rows s = rowsOf (s .a) (s .n)
 
@@ -37,14 +24,14 @@ columns s = columnsOf (s .a) (s .n)
 abbrev pub shift : Screen → ℕ
 shift s = shiftOf (s .a) (s .b) (s .n)
 
--- rule 3.5: what `brick_of` answers
+-- rule 3.5, what `brick_of` answers: the numbers that the screen stores
 unfoldable pub brickOf : Screen → Brick
 brickOf s =
     record {
       refusal = refusalOf s;
-      columns = answered (refusalOf s) (columns s);
-      rows = answered (refusalOf s) (rows s);
-      shift = answered (refusalOf s) (shift s);
+      columns = answered (refusalOf s) (s .columns);
+      rows = answered (refusalOf s) (s .rows);
+      shift = answered (refusalOf s) (s .shift);
     }
 
 -- rule 3.6: place v × L + u of the buffer, so that place i has u = i % L and v = i / L
@@ -55,7 +42,7 @@ phaseAtPlace a b n g i = phaseOf a b n g (i % columnsOf a n) (i / columnsOf a n)
 unfoldable pub brickPhases : Screen → List ℕ
 brickPhases s = upto (λ i. phaseAtPlace (s .a) (s .b) (s .n) (s .g) i) (s .n)
 
--- rules 11.4 and 11.12, refusals of a brick buffer of the given length: 1 to 4, then 8 for one that is too short
+-- rules 11.4 and 11.12, refusals of a brick buffer of the given length: the screen's, then 8 for one that is too short
 unfoldable pub bufferRefusal : Screen → ℕ → ℕ
 bufferRefusal s places = orElse (refusalOf s) (unless (leb (s .n) places) 8 0)
 

@@ -7,15 +7,16 @@ use lib.ListN.{length, getD}
 use lib.Dec.{eqb}
 use Rattle.arith.specs.Sum.{sumBelow, indicator}
 use Rattle.screen.specs.declared.Screen.{Screen}
-use Rattle.screen.specs.Screens.{refusalOf, Admitted, Limits}
+use Rattle.screen.specs.Screens.{screenOf, refusalOf, Admitted, Limits, Stored}
 use Rattle.screen.specs.Phase.{phase, placeOf}
 use Rattle.screen.specs.Brick.{rows, columns, shift, brickOf, bufferRefusal, filled, TrueBrick, placeInBrick}
+use Rattle.screen.specs.Made.{noScreen, madeOf, offsetReplaced, subscreensReplaced, cellsReplaced, Replacement, replaced, afterAll}
 
 -- ---- screen and phase
 
--- rule 1.6: a screen is admitted exactly where its numbers keep the limits of rules 1.2 to 1.5
+-- rule 1.6: a screen is admitted exactly where its numbers keep the limits of rules 1.2 to 1.5 and its stored numbers are true
 abbrev pub AdmittedWords : Type 0
-AdmittedWords = (s : Screen) → (Admitted s → Limits s) × (Limits s → Admitted s)
+AdmittedWords = (s : Screen) → (Admitted s → Limits s) × (Admitted s → Stored s) × (Limits s → Stored s → Admitted s)
 
 -- rule 2.2: the phase is 0 to N − 1
 abbrev pub PhaseBelow : Type 0
@@ -107,3 +108,54 @@ EachPhaseOnce = (s : Screen) → Admitted s → (x y p : ℕ) → p < s .n → O
 abbrev pub EachPhaseTimes : Type 0
 EachPhaseTimes =
     (s : Screen) → Admitted s → (x y u v p : ℕ) → p < s .n → times s x y (u * columns s) (v * rows s) p ≡ u * v
+
+-- ---- making and replacing
+
+-- rule 17.2: five numbers are refused as their screen is, never as 15; a screen that is made is that of its five numbers, and one that
+-- is refused has eight zeros
+abbrev pub MadeWords : Type 0
+MadeWords =
+    (a b n k g : ℕ)
+    → (madeOf a b n k g .refusal ≡ refusalOf (screenOf a b n k g))
+    × (madeOf a b n k g .refusal ≤ 4)
+    × (madeOf a b n k g .refusal ≡ 0 → madeOf a b n k g .screen ≡ screenOf a b n k g)
+    × ((madeOf a b n k g .refusal ≡ 0 → ⊥) → madeOf a b n k g .screen ≡ noScreen)
+
+-- rule 17.6: a screen that is made is admitted
+abbrev pub MadeAdmitted : Type 0
+MadeAdmitted = (a b n k g : ℕ) → madeOf a b n k g .refusal ≡ 0 → Admitted (madeOf a b n k g .screen)
+
+-- and so is what a replacement of an admitted screen hands back, refused or not
+abbrev pub ReplacedAdmitted : Type 0
+ReplacedAdmitted = (s : Screen) → Admitted s → (r : Replacement) → Admitted (replaced s r .screen)
+
+-- rule 17.4: a replacement that is refused hands back the screen that it got, whatever that is
+abbrev pub RefusedKeeps : Type 0
+RefusedKeeps = (s : Screen) (r : Replacement) → (replaced s r .refusal ≡ 0 → ⊥) → replaced s r .screen ≡ s
+
+-- rule 17.5, what a served replacement keeps: of another g, the other seven numbers
+abbrev pub OffsetKeeps : Type 0
+OffsetKeeps =
+    (s : Screen) (g : ℕ) → offsetReplaced s g .refusal ≡ 0
+    → offsetReplaced s g .screen
+    ≡ record { a = s .a; b = s .b; n = s .n; k = s .k; g = g; columns = s .columns; rows = s .rows; shift = s .shift }
+
+-- of another K, the other seven
+abbrev pub SubscreensKeep : Type 0
+SubscreensKeep =
+    (s : Screen) (k : ℕ) → subscreensReplaced s k .refusal ≡ 0
+    → subscreensReplaced s k .screen
+    ≡ record { a = s .a; b = s .b; n = s .n; k = k; g = s .g; columns = s .columns; rows = s .rows; shift = s .shift }
+
+-- of another N, those that do not follow from it
+abbrev pub CellsKeep : Type 0
+CellsKeep =
+    (s : Screen) (n : ℕ) → cellsReplaced s n .refusal ≡ 0
+    → cellsReplaced s n .screen ≡ screenOf (s .a) (s .b) n (s .k) (s .g)
+
+-- Rule 17.6: take a made screen and any replacements one after another, served or refused. What they leave stores the L, H and S of its
+-- a, b and N, and is admitted.
+abbrev pub TrueThroughout : Type 0
+TrueThroughout =
+    (a b n k g : ℕ) → madeOf a b n k g .refusal ≡ 0 → (rs : List Replacement)
+    → Stored (afterAll rs (madeOf a b n k g .screen)) × Admitted (afterAll rs (madeOf a b n k g .screen))

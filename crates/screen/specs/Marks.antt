@@ -1,13 +1,16 @@
--- Rules 12.1 and 12.2, the worked examples of bricks and phases, and small cases of what the calls and the laws say.
+-- Rules 12.1, 12.2, 12.18 and 12.19, the worked examples of bricks, phases and stored numbers, and small cases of what the calls and
+-- the laws say.
 -- proofs/AllMarks.antt shows them by computing the definitions.
 -- Assumes nothing: these are statements.
 use Prim.Native.Nat.{ℕ}
 use mathlib.Core.Path.{_≡_}
 use mathlib.Core.List.{[], _∷_}
 use Rattle.screen.specs.declared.Screen.{Screen}
+use Rattle.screen.specs.Sizes.{rowsOf, columnsOf, shiftOf}
 use Rattle.screen.specs.Screens.{screenOf, refusalOf}
 use Rattle.screen.specs.Phase.{phaseOf, placeRefusal}
-use Rattle.screen.specs.Brick.{rowsOf, columnsOf, shiftOf, filled, placeInBrick}
+use Rattle.screen.specs.Brick.{brickOf, bufferRefusal, filled, placeInBrick}
+use Rattle.screen.specs.Made.{madeOf, offsetReplaced, subscreensReplaced, cellsReplaced, offset, subscreens, cells, afterAll}
 use Rattle.screen.specs.Laws.{Shifted, Once}
 
 -- the screen of rule 12.8's text
@@ -21,6 +24,14 @@ sloped = screenOf 4 8 105 2 0
 -- the screen of two rows a brick
 abbrev pub tworowed : Screen
 tworowed = screenOf 4 7 70 2 0
+
+-- a screen of slope 4/7 by its other six numbers, whatever they are
+abbrev pub filed : ℕ → ℕ → ℕ → ℕ → ℕ → ℕ → Screen
+filed n k g l h s = record { a = 4; b = 7; n = n; k = k; g = g; columns = l; rows = h; shift = s }
+
+-- rule 12.19's screen, with K subscreens
+abbrev pub untrue : ℕ → Screen
+untrue k = filed 70 k 0 35 2 20
 
 -- the screen of slope a/b and N cells has a brick of L columns, H rows and shift S
 abbrev pub BrickIs : ℕ → ℕ → ℕ → ℕ → ℕ → ℕ → Type 0
@@ -44,3 +55,25 @@ pub record Marks : Type 0 where
   -- the lowest number that applies: of 3 and 4, and of 1 and 5
   pub lowest-3 : refusalOf (screenOf 4 7 5 6 5) ≡ 3
   pub lowest-1 : placeRefusal sloped 65536 0 ≡ 1
+  -- rule 12.18: made, replaced and refused
+  pub made : madeOf 4 7 105 2 40 ≡ record { refusal = 0; screen = filed 105 2 40 105 1 28 }
+  pub cells-70 : cellsReplaced (filed 105 2 40 105 1 28) 70 ≡ record { refusal = 0; screen = filed 70 2 40 35 2 21 }
+  pub cells-1 : cellsReplaced (filed 70 2 40 35 2 21) 1 ≡ record { refusal = 3; screen = filed 70 2 40 35 2 21 }
+  pub cells-40 : cellsReplaced (filed 70 2 40 35 2 21) 40 ≡ record { refusal = 4; screen = filed 70 2 40 35 2 21 }
+  pub offset-70 : offsetReplaced (filed 70 2 40 35 2 21) 70 ≡ record { refusal = 4; screen = filed 70 2 40 35 2 21 }
+  pub subscreens-17 : subscreensReplaced (filed 70 2 40 35 2 21) 17 ≡ record { refusal = 3; screen = filed 70 2 40 35 2 21 }
+  -- a list of these, with two that are served after them
+  pub list : afterAll (cells 70 ∷ cells 1 ∷ offset 70 ∷ subscreens 17 ∷ offset 5 ∷ subscreens 3 ∷ []) (filed 105 2 40 105 1 28) ≡ filed 70 3 5 35 2 21
+  -- five numbers that are refused make eight zeros
+  pub unmade : madeOf 4 7 105 17 0 ≡ record { refusal = 3; screen = record { a = 0; b = 0; n = 0; k = 0; g = 0; columns = 0; rows = 0; shift = 0 } }
+  -- rule 12.19: 15 after 3 and before 5 and 8; the screen that is handed in before the new one, and handed back
+  pub untrue-shift : refusalOf (untrue 2) ≡ 15
+  pub untrue-3 : refusalOf (untrue 17) ≡ 3
+  pub untrue-5 : placeRefusal (untrue 2) 65536 0 ≡ 15
+  pub untrue-8 : bufferRefusal (untrue 2) 0 ≡ 15
+  pub untrue-brick : brickOf (untrue 2) ≡ record { refusal = 15; columns = 0; rows = 0; shift = 0 }
+  pub untrue-back : cellsReplaced (untrue 2) 0 ≡ record { refusal = 15; screen = untrue 2 }
+  -- each stored number by itself, and a shift that fits beyond the columns
+  pub untrue-columns : refusalOf (filed 70 2 0 36 2 21) ≡ 15
+  pub untrue-rows : refusalOf (filed 70 2 0 35 1 21) ≡ 15
+  pub untrue-far : refusalOf (filed 70 2 0 35 2 56) ≡ 15

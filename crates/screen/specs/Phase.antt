@@ -15,7 +15,7 @@ phaseOf a b n g x y = remainderOf (a * x) (b * y + g) n
 abbrev pub phase : Screen → ℕ → ℕ → ℕ
 phase s x y = phaseOf (s .a) (s .b) (s .n) (s .g) x y
 
--- rules 11.4 and 11.9, refusals of a lone place: 1 to 4, then 5, the place being a window of 1 by 1
+-- rules 11.4 and 11.9, refusals of a lone place: the screen's, then 5, the place being a window of 1 by 1
 unfoldable pub placeRefusal : Screen → ℕ → ℕ → ℕ
 placeRefusal s x y = orElse (refusalOf s) (unless (onSheet x y 1 1) 5 0)
 

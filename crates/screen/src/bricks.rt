@@ -1,10 +1,11 @@
-// The brick: its size and shift, and its buffer of phases.
+// The brick of a screen, and its buffer of phases.
 ghost use mathlib.Core.Path.{_≡_};
 ghost use mathlib.Core.List.{_++_};
 ghost use Prim.Native.Nat.{_+_, _%_, _≤_, _<_};
 ghost use lib.ListN.{length, drop};
 ghost use Rattle.arith.specs.Run.{upto};
-ghost use Rattle.screen.specs.Brick.{rowsOf, shiftOf, brickOf, phaseAtPlace, bufferRefusal, filled};
+ghost use Rattle.screen.specs.Sizes.{columnsOf};
+ghost use Rattle.screen.specs.Brick.{brickOf, phaseAtPlace, bufferRefusal, filled};
 use crate::Screen;
 use crate::refusal;
 
@@ -16,7 +17,7 @@ pub struct Brick {
     pub shift: u32,
 }
 
-// The brick of a screen.
+// The brick of a screen, as it is stored with it.
 pub fn brick_of(s: Screen) -> Brick
     ensures { λ r. ⌜ r ≡ brickOf s ⌝ }
 {
@@ -29,29 +30,12 @@ pub fn brick_of(s: Screen) -> Brick
             shift: 0,
         };
     }
-    let rows = arith::gcd(s.a, s.n);
     Brick {
         refusal: 0,
-        columns: s.n / rows,
-        rows: rows,
-        shift: shift_of(s.a, s.b, s.n, rows),
+        columns: s.columns,
+        rows: s.rows,
+        shift: s.shift,
     }
-}
-
-// The first number of columns after which a row has come as far as H rows down lead: the shift.
-fn shift_of(a: u32, b: u32, n: u32, rows: u32) -> u32
-    requires { ⌜ (b ≤ 64) × (0 < n) × (n ≤ 4096) × (rows ≡ rowsOf a n) ⌝ }
-    ensures { λ r. ⌜ r ≡ shiftOf a b n ⌝ }
-{
-    let wanted = b * rows % n;
-    let right = a % n;
-    let mut reached = 0;
-    let mut shift = 0;
-    while reached != wanted {
-        reached = carry(reached, right, n);
-        shift += 1;
-    }
-    shift
 }
 
 // Writes a screen's brick to the first n places of a lent buffer and answers 0, or answers what
@@ -68,17 +52,16 @@ pub fn fill_brick(s: Screen, brick: &mut [u16]) -> u32
     if brick.len() < n as usize {
         return 8;
     }
-    fill(brick, s.a, s.b, n, s.g);
+    fill(brick, s.a, s.b, n, s.g, s.columns);
     0
 }
 
 // Writes the n phases of a brick row after row, each carried from the one before. At a row's end the
 // phase has come round to that of the row's first column, so that one step down is all that is left.
-fn fill(brick: &mut [u16], a: u32, b: u32, n: u32, g: u32)
-    requires { ⌜ (0 < n) × (n ≤ 4096) × (g < n) × (n ≤ length (now brick)) ⌝ }
+fn fill(brick: &mut [u16], a: u32, b: u32, n: u32, g: u32, columns: u32)
+    requires { ⌜ (0 < n) × (n ≤ 4096) × (g < n) × (columns ≡ columnsOf a n) × (n ≤ length (now brick)) ⌝ }
     ensures { λ _. ⌜ now (brick .exit) ≡ upto (λ i. phaseAtPlace a b n g i) n ++ drop n (now (brick .entry)) ⌝ }
 {
-    let columns = n / arith::gcd(a, n);
     let right = a % n;
     let down = n - b % n;
     let mut phase = carry(0, n - g, n);
@@ -97,7 +80,7 @@ fn fill(brick: &mut [u16], a: u32, b: u32, n: u32, g: u32)
 }
 
 // p + by, with n taken off where it is reached.
-fn carry(p: u32, by: u32, n: u32) -> u32
+pub(crate) fn carry(p: u32, by: u32, n: u32) -> u32
     requires { ⌜ (p < n) × (by ≤ n) × (n ≤ 4096) ⌝ }
     ensures { λ r. ⌜ (r ≡ (p + by) % n) × (r < n) ⌝ }
 {

@@ -28,7 +28,7 @@ pub fn phase_at(s: Screen, x: u32, y: u32) -> Place
     }
 }
 
-// The lowest refusal of a place: that of the screen, or 5 where the place is off the sheet.
+// The refusal of a place: that of the screen, else 5 where the place is off the sheet.
 fn place_refusal(s: Screen, x: u32, y: u32) -> u32
     ensures { λ r. ⌜ r ≡ placeRefusal s x y ⌝ }
 {

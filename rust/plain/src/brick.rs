@@ -20,31 +20,35 @@ fn greatest_common_divisor(first: u32, second: u32) -> u32 {
     }
 }
 
-/// The shift S, from 0 to L − 1: a × S mod N is b × H mod N (rule 3.3).
-fn shift(s: Screen, columns: u32, rows: u32) -> u32 {
-    (0..columns)
-        .find(|shift| (s.a * shift) % s.n == (s.b * rows) % s.n)
-        .expect("an admitted screen has a shift")
+/// The shift S, from 0 to L − 1: a × S mod N is b × H mod N (rule 3.3). So a × S is b × H and some times N,
+/// and since a × L is some times N too, the first such multiple of a tells S.
+fn shift(a: u32, b: u32, n: u32, columns: u32, rows: u32) -> u32 {
+    let mut sums = (0..a).map(|times| b * rows + times * n);
+    let multiple =
+        sums.find(|sum| sum.is_multiple_of(a)).expect("an admitted slope and cell count have a shift");
+    multiple / a % columns
 }
 
-/// L, H and S of a screen, or why it is refused.
+/// L, H and S of an admitted slope and cell count (rules 3.1 to 3.3).
+pub(crate) fn brick_sizes(a: u32, b: u32, n: u32) -> [u32; 3] {
+    let rows = greatest_common_divisor(a, n);
+    let columns = n / rows;
+    [columns, rows, shift(a, b, n, columns, rows)]
+}
+
+/// L, H and S as a screen stores them, or why it is refused (rule 3.5).
 pub fn brick_of(s: Screen) -> Brick {
     match screen_refusal(s) {
-        0 => {
-            let rows = greatest_common_divisor(s.a, s.n);
-            let columns = s.n / rows;
-            Brick { refusal: 0, columns, rows, shift: shift(s, columns, rows) }
-        }
+        0 => Brick { refusal: 0, columns: s.columns, rows: s.rows, shift: s.shift },
         refusal => Brick { refusal, ..Brick::default() },
     }
 }
 
 /// The N numbers that an admitted screen's brick buffer holds, row by row of the brick (rule 3.6).
 pub(crate) fn true_brick(s: Screen) -> Vec<u16> {
-    let brick = brick_of(s);
     let mut places = Vec::new();
-    for v in 0..brick.rows {
-        for u in 0..brick.columns {
+    for v in 0..s.rows {
+        for u in 0..s.columns {
             places.push(phase(s, u, v) as u16);
         }
     }

@@ -1,8 +1,9 @@
 //! Rules 10.1 to 10.8: the counts program.
 
 use crate::quantise::counts;
-use crate::screen::{screen_refusal, Screen};
+use crate::screen::Screen;
 use crate::separation::{Inks, Separation};
+use crate::stored::{make_screen, Made};
 
 /// The byte that ends each line.
 const END: u8 = 10;
@@ -73,19 +74,18 @@ fn number(field: &[u8]) -> Option<u32> {
 
 /// The screen of line 1, or its refusal: 10 for the form, and only then 1 to 4 (rule 10.8).
 fn read_screen(line: &[u8]) -> Result<Screen, u32> {
-    let screen = screen_of(line).ok_or(10u32)?;
-    match screen_refusal(screen) {
-        0 => Ok(screen),
-        refusal => Err(refusal),
+    match screen_of(line).ok_or(10u32)? {
+        Made { refusal: 0, screen } => Ok(screen),
+        Made { refusal, .. } => Err(refusal),
     }
 }
 
-/// The five numbers of a line 1 that has its form (rule 10.3).
-fn screen_of(line: &[u8]) -> Option<Screen> {
+/// The screen made of the five numbers of a line 1 that has its form (rules 10.3 and 10.6).
+fn screen_of(line: &[u8]) -> Option<Made> {
     let [b"S", a, b, n, k, g] = fields(line)?[..] else {
         return None;
     };
-    Some(Screen { a: number(a)?, b: number(b)?, n: number(n)?, k: number(k)?, g: number(g)? })
+    Some(make_screen(number(a)?, number(b)?, number(n)?, number(k)?, number(g)?))
 }
 
 /// The patch of a P line that has its form (rule 10.4).

@@ -18,6 +18,7 @@ pub mod random;
 mod render;
 mod screen;
 mod separation;
+mod stored;
 
 pub use bill::{charge_of, Charge};
 pub use brick::{brick_of, fill_brick, Brick};
@@ -29,9 +30,10 @@ pub use quantise::{cells_of_subscreen, counts_of, running_counts, subscreen_of, 
 pub use render::{cell_at, render, render_brick, Cell, Rendering, Window};
 pub use screen::{phase, phase_at, screen_refusal, Place, Screen};
 pub use separation::{scale, weights, Inks, Separation};
+pub use stored::{make_screen, replace_cells, replace_offset, replace_subscreens, Made};
 
 /// The number of the rules that this implementation is written from (rule 14.1).
-pub const RULES: u32 = 2;
+pub const RULES: u32 = 3;
 
 /// The refusal of a separation that is neither 0 (Demichel) nor 1 (Kueppers), tested before all else
 /// (rule 14.3).

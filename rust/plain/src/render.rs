@@ -1,6 +1,6 @@
 //! Rules 7.1 to 7.8: the renderers, and rule 3.9: how a brick is read.
 
-use crate::brick::{brick_of, true_brick, Brick};
+use crate::brick::true_brick;
 use crate::quantise::colorant;
 use crate::screen::{phase, place_refusal, screen_refusal, Screen, SHEET};
 use crate::separation::{Inks, Separation};
@@ -40,7 +40,7 @@ pub fn cell_at(s: Screen, separation: u32, x: u32, y: u32, inks: Inks) -> Cell {
     }
 }
 
-/// The lowest of the refusals 1 to 7 that applies to a rendering, or 0.
+/// The refusal of the screen or else the lowest of 5 to 7 that applies to a rendering, or 0.
 fn render_refusal(s: Screen, w: Window, input: &[u8], out: &[u8]) -> u32 {
     let refusal = screen_refusal(s);
     if refusal != 0 {
@@ -95,12 +95,12 @@ pub fn render(s: Screen, separation: u32, w: Window, input: &[u8], out: &mut [u8
 
 /// The place of the brick buffer that serves (x, y), columns and rows counted from the sheet's corner
 /// (rule 3.9).
-fn brick_place(brick: Brick, x: u32, y: u32) -> usize {
-    let bricks_down = i64::from(y / brick.rows);
-    let unshifted = i64::from(x) - bricks_down * i64::from(brick.shift);
-    let u = unshifted.rem_euclid(i64::from(brick.columns)) as usize;
-    let v = (y % brick.rows) as usize;
-    v * brick.columns as usize + u
+fn brick_place(s: Screen, x: u32, y: u32) -> usize {
+    let bricks_down = i64::from(y / s.rows);
+    let unshifted = i64::from(x) - bricks_down * i64::from(s.shift);
+    let u = unshifted.rem_euclid(i64::from(s.columns)) as usize;
+    let v = (y % s.rows) as usize;
+    v * s.columns as usize + u
 }
 
 /// Whether a brick buffer is a true brick of an admitted screen (rule 3.8).
@@ -127,6 +127,5 @@ pub fn render_brick(
     if !brick_is_true(s, brick) {
         return Rendering { refusal: 8, ..Rendering::default() };
     }
-    let sizes = brick_of(s);
-    write_cells(s, separation, w, input, out, |x, y| u32::from(brick[brick_place(sizes, x, y)]))
+    write_cells(s, separation, w, input, out, |x, y| u32::from(brick[brick_place(s, x, y)]))
 }

@@ -1,5 +1,5 @@
-//! The plain implementation by itself: the worked examples, finished windows, jobs, cellular predictions, and
-//! the counts program's texts.
+//! The plain implementation by itself: the worked examples, finished windows, jobs, cellular predictions,
+//! screens made and replaced, and the counts program's texts.
 
 mod promises;
 mod texts;
@@ -7,7 +7,8 @@ mod texts;
 /// The implementation that the promises are put to.
 mod subject {
     pub use cavzemil_plain::{brick_of, cell_at, charge_of, counts_of, fill_brick, pack, phase_at, predict};
-    pub use cavzemil_plain::{predict_cellular, render, render_brick, unpack};
+    pub use cavzemil_plain::{make_screen, predict_cellular, render, render_brick, replace_cells};
+    pub use cavzemil_plain::{replace_offset, replace_subscreens, unpack};
 }
 
 /// The weights of rule 12.3.

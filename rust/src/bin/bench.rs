@@ -1,9 +1,10 @@
 //! Cells a second of the compiled library: both renderers on flat, gradient and noisy images, packing and
 //! unpacking; beside each the plain second implementation and a copy of the same input bytes, measured in the
-//! same run. Three lines follow with the time of a call: for a lone cell, for the charge of a job and for a
-//! cellular prediction. Run by `cargo run --release --features bench --bin bench`.
+//! same run. Lines follow with the time of a call: for a lone cell, for what else a screen is asked and how
+//! one is come by, for the charge of a job and for a cellular prediction. Run by
+//! `cargo run --release --features bench --bin bench`.
 
-use cavzemil::{charge, pack, unpack, Inks, Screen, Separation, Window, Xyz};
+use cavzemil::{calls, charge, pack, unpack, Inks, Screen, Separation, Window, Xyz};
 use cavzemil_plain as plain;
 use cavzemil_plain::random::Random;
 use std::hint::black_box;
@@ -20,8 +21,8 @@ const REPEATS: u32 = 3;
 const PLAIN_REPEATS: u32 = 2;
 const COPY_REPEATS: u32 = 10;
 
-/// How many lone cells are asked for.
-const LONE_CELLS: u32 = 100_000;
+/// How many calls of each sort are made by which a screen is asked or come by, without lent memory.
+const SCREEN_CALLS: u32 = 100_000;
 
 /// How many charges are asked for, and the windows of their job.
 const CHARGES: u32 = 10_000;
@@ -31,13 +32,18 @@ const JOB_WINDOWS: u32 = 1_000;
 const PREDICTIONS: u32 = 100_000;
 const PRIMARIES: u32 = 765;
 
-/// The screen, as both implementations take it.
-const SCREEN: Screen = Screen { a: 4, b: 7, n: 105, k: 2, g: 0 };
-const PLAIN_SCREEN: plain::Screen = plain::Screen { a: 4, b: 7, n: 105, k: 2, g: 0 };
+/// The cells of the images' screen, and the most that a screen may have.
+const IMAGE_SCREEN: u32 = 105;
+const LARGEST_SCREEN: u32 = 4096;
 
 /// The window, as both implementations take it.
 const WINDOW: Window = Window { x: 0, y: 0, columns: SIDE, rows: SIDE };
 const PLAIN_WINDOW: plain::Window = plain::Window { x: 0, y: 0, columns: SIDE, rows: SIDE };
+
+/// The screen 4/7 of so many cells in 2 subscreens, as both implementations take it.
+fn screens(n: u32) -> (Screen, plain::Screen) {
+    (screened(Screen::new(4, 7, n, 2, 0)), plain::make_screen(4, 7, n, 2, 0).screen)
+}
 
 /// An image's name and its ink values.
 type Image = (&'static str, Vec<u8>);
@@ -101,12 +107,13 @@ fn print_call(call: &str, calls: u32, library: f64, plain: f64) {
 
 /// Measures the renderer that works phases out.
 fn measure_render(separation: Separation, (name, input): &Image) {
+    let (screen, plain_screen) = screens(IMAGE_SCREEN);
     let (mut cells, mut plain_cells) = (vec![8; CELLS], vec![8; CELLS]);
     let library = speed(REPEATS, || {
-        screened(SCREEN.render(separation, WINDOW, input, &mut cells));
+        screened(screen.render(separation, WINDOW, input, &mut cells));
     });
     let plain = speed(PLAIN_REPEATS, || {
-        black_box(plain::render(PLAIN_SCREEN, separation.number(), PLAIN_WINDOW, input, &mut plain_cells));
+        black_box(plain::render(plain_screen, separation.number(), PLAIN_WINDOW, input, &mut plain_cells));
     });
     assert!(cells == plain_cells, "both implementations render alike");
     print_row(&format!("render, {separation:?}, {name}"), library, plain, copy_speed(input));
@@ -114,15 +121,16 @@ fn measure_render(separation: Separation, (name, input): &Image) {
 
 /// Measures the renderer that reads phases from a brick buffer.
 fn measure_render_brick(separation: Separation, (name, input): &Image) {
+    let (screen, plain_screen) = screens(IMAGE_SCREEN);
     let (mut cells, mut plain_cells) = (vec![8; CELLS], vec![8; CELLS]);
-    let mut brick = vec![0; SCREEN.n as usize];
-    screened(SCREEN.fill_brick(&mut brick));
+    let mut brick = [0; IMAGE_SCREEN as usize];
+    screened(screen.fill_brick(&mut brick));
     let library = speed(REPEATS, || {
-        screened(SCREEN.render_brick(separation, WINDOW, input, &brick, &mut cells));
+        screened(screen.render_brick(separation, WINDOW, input, &brick, &mut cells));
     });
     let plain = speed(PLAIN_REPEATS, || {
         let number = separation.number();
-        black_box(plain::render_brick(PLAIN_SCREEN, number, PLAIN_WINDOW, input, &brick, &mut plain_cells));
+        black_box(plain::render_brick(plain_screen, number, PLAIN_WINDOW, input, &brick, &mut plain_cells));
     });
     assert!(cells == plain_cells, "both implementations render alike");
     print_row(&format!("render_brick, {separation:?}, {name}"), library, plain, copy_speed(input));
@@ -130,8 +138,9 @@ fn measure_render_brick(separation: Separation, (name, input): &Image) {
 
 /// Measures packing and unpacking of an image's cells.
 fn measure_plates((name, input): &Image) {
+    let (screen, _) = screens(IMAGE_SCREEN);
     let mut cells = vec![8; CELLS];
-    screened(SCREEN.render(Separation::Demichel, WINDOW, input, &mut cells));
+    screened(screen.render(Separation::Demichel, WINDOW, input, &mut cells));
     let mut planes = vec![0; CELLS];
     let library = speed(REPEATS, || screened(pack(SIDE, SIDE, &cells, &mut planes)));
     let mut plain_planes = vec![0; CELLS];
@@ -150,22 +159,63 @@ fn measure_plates((name, input): &Image) {
     print_row(&format!("unpack, {name}"), library, plain, copy_speed(&planes));
 }
 
-/// Measures lone cells on a screen of 4,096 cells: a window that meets one phase.
-fn measure_lone_cells() {
-    let (screen, plain_screen) = (Screen { n: 4096, ..SCREEN }, plain::Screen { n: 4096, ..PLAIN_SCREEN });
-    let places = || (0..LONE_CELLS).map(|place| (place % SIDE, place / 7));
-    let inks = Inks { c: 51, m: 102, y: 204 };
+/// Measures a call that is handed one number after another.
+fn measure_call<L, P>(call: &str, library: impl Fn(u32) -> L, plain: impl Fn(u32) -> P) {
     let library = seconds(REPEATS, || {
-        places().for_each(|(x, y)| {
-            black_box(screened(screen.cell_at(Separation::Kueppers, x, y, inks)));
+        (0..SCREEN_CALLS).for_each(|number| {
+            black_box(library(black_box(number)));
         });
     });
     let plain = seconds(PLAIN_REPEATS, || {
-        places().for_each(|(x, y)| {
-            black_box(plain::cell_at(plain_screen, Separation::Kueppers.number(), x, y, [51, 102, 204]));
+        (0..SCREEN_CALLS).for_each(|number| {
+            black_box(plain(black_box(number)));
         });
     });
-    print_call("cell_at, n = 4096", LONE_CELLS, library, plain);
+    print_call(&format!("{call}, n = {LARGEST_SCREEN}"), SCREEN_CALLS, library, plain);
+}
+
+/// Measures what the largest screen is asked for a place; a lone cell is a window that meets one phase.
+fn measure_places() {
+    let (screen, plain_screen) = screens(LARGEST_SCREEN);
+    let place = |number: u32| (number % SIDE, number / 7);
+    let inks = Inks { c: 51, m: 102, y: 204 };
+    let cell_at = |(x, y)| screened(screen.cell_at(Separation::Kueppers, x, y, inks));
+    let plain_cell_at =
+        |(x, y)| plain::cell_at(plain_screen, Separation::Kueppers.number(), x, y, [51, 102, 204]);
+    measure_call("cell_at", |number| cell_at(place(number)), |number| plain_cell_at(place(number)));
+    let phase_at = |(x, y)| screened(screen.phase_at(x, y));
+    let plain_phase_at = |(x, y)| plain::phase_at(plain_screen, x, y);
+    measure_call("phase_at", |number| phase_at(place(number)), |number| plain_phase_at(place(number)));
+}
+
+/// Measures what the largest screen is asked without a place.
+fn measure_counts_and_brick() {
+    let (screen, plain_screen) = screens(LARGEST_SCREEN);
+    measure_call(
+        "counts_of",
+        |number| screen.counts(Separation::Kueppers, Inks { c: number as u8, m: 102, y: 204 }),
+        |number| plain::counts_of(plain_screen, Separation::Kueppers.number(), [number as u8, 102, 204]),
+    );
+    measure_call(
+        "brick_of",
+        |_| calls::brick_of(black_box(screen).into()),
+        |_| plain::brick_of(black_box(plain_screen)),
+    );
+}
+
+/// Measures how the largest screen is come by, and how it gets another cell count.
+fn measure_making() {
+    let (screen, plain_screen) = screens(LARGEST_SCREEN);
+    measure_call(
+        "make_screen",
+        |number| screened(Screen::new(4, 7, LARGEST_SCREEN, 2, number % LARGEST_SCREEN)),
+        |number| plain::make_screen(4, 7, LARGEST_SCREEN, 2, number % LARGEST_SCREEN),
+    );
+    measure_call(
+        "replace_cells",
+        |number| screened(screen.with_cells(LARGEST_SCREEN - number % 1000)),
+        |number| plain::replace_cells(plain_screen, LARGEST_SCREEN - number % 1000),
+    );
 }
 
 /// Measures the charge of the longest job.
@@ -189,24 +239,25 @@ fn measure_charge() {
 
 /// Measures cellular predictions of ink values that change from call to call.
 fn measure_predict_cellular() {
+    let (screen, plain_screen) = screens(IMAGE_SCREEN);
     let mut random = Random::new(9);
     let primaries: Vec<f64> = (0..PRIMARIES).map(|_| f64::from(random.between(0, 2000)) / 10.0).collect();
     let patches = || (0..PREDICTIONS).map(|patch| [patch as u8, (patch / 7) as u8, (patch / 61) as u8]);
     let library = seconds(REPEATS, || {
         patches().for_each(|[c, m, y]| {
             let inks = Inks { c, m, y };
-            black_box(screened(SCREEN.predict_cellular(Separation::Demichel, inks, black_box(&primaries))));
+            black_box(screened(screen.predict_cellular(Separation::Demichel, inks, black_box(&primaries))));
         });
     });
     let plain = seconds(PLAIN_REPEATS, || {
         patches().for_each(|inks| {
             let number = Separation::Demichel.number();
-            black_box(plain::predict_cellular(PLAIN_SCREEN, number, inks, black_box(&primaries)));
+            black_box(plain::predict_cellular(plain_screen, number, inks, black_box(&primaries)));
         });
     });
     let Xyz { x, y, z } =
-        screened(SCREEN.predict_cellular(Separation::Demichel, Inks { c: 128, m: 128, y: 0 }, &primaries));
-    let expected = plain::predict_cellular(PLAIN_SCREEN, 0, [128, 128, 0], &primaries).xyz;
+        screened(screen.predict_cellular(Separation::Demichel, Inks { c: 128, m: 128, y: 0 }, &primaries));
+    let expected = plain::predict_cellular(plain_screen, 0, [128, 128, 0], &primaries).xyz;
     assert_eq!([x, y, z], expected, "both implementations predict alike");
     print_call(&format!("predict_cellular, {PRIMARIES} values"), PREDICTIONS, library, plain);
 }
@@ -230,7 +281,9 @@ fn main() {
         }
     }
     images.iter().for_each(measure_plates);
-    measure_lone_cells();
+    measure_places();
+    measure_counts_and_brick();
+    measure_making();
     measure_charge();
     measure_predict_cellular();
 }

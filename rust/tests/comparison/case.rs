@@ -1,5 +1,6 @@
 //! A case: one call put to both implementations, that can tell itself and shrink.
 
+use crate::promises::draw::record;
 use cavzemil_plain::{Inks, Screen, Window};
 use std::fmt::Debug;
 
@@ -60,7 +61,8 @@ pub fn smaller_numbers(number: u32) -> impl Iterator<Item = u32> {
     choices.into_iter().filter(move |choice| *choice < number)
 }
 
-/// Screens smaller than this one: in one number, or with the simplest slope.
+/// Screens smaller than this one: in one number, or with the simplest slope, each with the brick that this
+/// gives and with the stored numbers as they are; or in one of these.
 pub fn smaller_screens(s: Screen) -> Vec<Screen> {
     let mut screens = Vec::new();
     if s.b > 2 {
@@ -71,7 +73,16 @@ pub fn smaller_screens(s: Screen) -> Vec<Screen> {
     screens.extend(smaller_numbers(s.k).map(|k| Screen { k, ..s }));
     screens.extend(smaller_numbers(s.a).map(|a| Screen { a, ..s }));
     screens.extend(smaller_numbers(s.b).map(|b| Screen { b, ..s }));
+    let mut screens: Vec<Screen> = screens.into_iter().flat_map(|s| [mended(s), s]).collect();
+    screens.extend(smaller_numbers(s.columns).map(|columns| Screen { columns, ..s }));
+    screens.extend(smaller_numbers(s.rows).map(|rows| Screen { rows, ..s }));
+    screens.extend(smaller_numbers(s.shift).map(|shift| Screen { shift, ..s }));
     screens
+}
+
+/// The screen with the brick that its numbers give, whatever it stores.
+pub fn mended(s: Screen) -> Screen {
+    record([s.a, s.b, s.n, s.k, s.g])
 }
 
 /// Ink values of which one is smaller.
@@ -99,7 +110,8 @@ pub fn smaller_windows(w: Window) -> Vec<Window> {
 
 /// A screen in plain words.
 pub fn screen_words(s: Screen) -> String {
-    format!("screen {}/{}, N = {}, K = {}, g = {}", s.a, s.b, s.n, s.k, s.g)
+    let stored = format!("storing {}, {}, {}", s.columns, s.rows, s.shift);
+    format!("screen {}/{}, N = {}, K = {}, g = {}, {stored}", s.a, s.b, s.n, s.k, s.g)
 }
 
 /// A separation number in plain words.

@@ -81,7 +81,7 @@ fn any_cells() {
 fn inks_in_steps() {
     let screens = [[4, 7, 105, 2, 0], [3, 8, 4096, 16, 17], [5, 9, 15, 15, 14], [1, 2, 1, 1, 0]];
     for [a, b, n, k, g] in screens {
-        let screen = Screen { a, b, n, k, g };
+        let screen = draw::record([a, b, n, k, g]);
         for step in 0..18 * 18 * 18u32 {
             let inks = [step % 18, step / 18 % 18, step / 324].map(|value| (value * 15) as u8);
             for separation in [0, 1] {

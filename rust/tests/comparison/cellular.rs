@@ -18,7 +18,7 @@ use cavzemil_plain::{colorant_order, colorant_sets, counts_of, set_weights, Inks
 const VALUES: usize = 765;
 
 /// A screen that is admitted; with the ink values below it gives weight to the sets 8 and 139 (rule 12.16).
-const SCREEN: Screen = Screen { a: 4, b: 7, n: 105, k: 2, g: 0 };
+const SCREEN: Screen = Screen { a: 4, b: 7, n: 105, k: 2, g: 0, columns: 105, rows: 1, shift: 28 };
 
 /// The ink values of rule 12.16.
 const INKS: Inks = [128, 128, 0];
@@ -218,8 +218,8 @@ fn bad_values_in_the_sets_of_the_counts() {
 #[test]
 fn zeros_of_both_signs() {
     for inks in [INKS, [255, 255, 255], [0, 0, 0], [30, 60, 90], [90, 100, 120]] {
-        let primaries = vec![1.0; VALUES];
-        let ones = CellularCase { screen: Screen { n: 4096, ..SCREEN }, separation: 0, inks, primaries };
+        let (screen, primaries) = (draw::record([4, 7, 4096, 2, 0]), vec![1.0; VALUES]);
+        let ones = CellularCase { screen, separation: 0, inks, primaries };
         for signs in 0..256 {
             let mut case = ones.clone();
             for (place, (set, _)) in ones.weighed_sets().into_iter().enumerate() {
@@ -266,7 +266,7 @@ fn equal_counts() {
     for n in (1..=40).chain([255, 256, 4095, 4096]) {
         for (c, m, y) in (0..216).map(|step| (values[step % 6], values[step / 6 % 6], values[step / 36])) {
             for separation in [0, 1] {
-                let screen = Screen { n, k: 1, ..SCREEN };
+                let screen = draw::record([4, 7, n, 1, 0]);
                 let primaries = good_run(&mut random);
                 let case = CellularCase { screen, separation, inks: [c, m, y], primaries };
                 compare(&case);
@@ -305,7 +305,8 @@ fn any_primaries() {
 fn full_tones() {
     let mut random = Random::new(95);
     for n in 1..=4096 {
-        let screen = Screen { n, k: 1, g: 0, ..draw::screen(&mut random) };
+        let (a, b) = draw::slope(&mut random);
+        let screen = draw::record([a, b, n, 1, 0]);
         let inks = [0; 3].map(|_: u8| random.one_of(&[0, 255]));
         compare(&CellularCase { screen, inks, ..CellularCase::served(&mut random) });
     }

@@ -1,13 +1,16 @@
 //! Drawing what calls are handed: spoiled screens, separations, windows, lengths.
 
+use crate::case::mended;
 use crate::promises::draw;
+use crate::promises::false_records::other_records;
 use cavzemil_plain::random::Random;
 use cavzemil_plain::{Screen, Window};
 
 /// Numbers at and beside the limits of a screen.
 const LIMITS: [u32; 15] = [0, 1, 2, 15, 16, 17, 63, 64, 65, 4095, 4096, 4097, 65_535, 65_536, u32::MAX];
 
-/// A screen: mostly admitted, else with one or two of its numbers replaced by limits.
+/// A screen: mostly admitted, else with one or two of its numbers replaced by limits, with the brick that
+/// these give or the one before, and seldom with other stored numbers.
 pub fn screen(random: &mut Random) -> Screen {
     let mut screen = draw::screen(random);
     if random.once_in(8) {
@@ -15,8 +18,26 @@ pub fn screen(random: &mut Random) -> Screen {
         if random.once_in(2) {
             spoil(random, &mut screen);
         }
+        if random.once_in(2) {
+            screen = mended(screen);
+        }
+    }
+    if random.once_in(16) {
+        screen = spoil_stored(random, screen);
     }
     screen
+}
+
+/// Replaces one or more of the stored numbers.
+fn spoil_stored(random: &mut Random, screen: Screen) -> Screen {
+    let bit = 1 << random.between(0, 31);
+    let turned = [
+        Screen { columns: screen.columns ^ bit, ..screen },
+        Screen { rows: screen.rows ^ bit, ..screen },
+        Screen { shift: screen.shift ^ bit, ..screen },
+    ];
+    let (turned, other) = (random.one_of(&turned), random.one_of(&other_records(screen)));
+    random.one_of(&[turned, other])
 }
 
 /// Replaces one of a screen's numbers by a limit.
@@ -33,7 +54,8 @@ fn spoil(random: &mut Random, screen: &mut Screen) {
     }
 }
 
-/// Screens at each limit and one beyond it, several limits passed at once among them.
+/// Screens at each limit and one beyond it, several limits passed at once among them, and records of all sorts
+/// that are false.
 pub fn limit_screens() -> Vec<Screen> {
     let numbers = [
         [4, 7, 105, 2, 0],
@@ -67,7 +89,21 @@ pub fn limit_screens() -> Vec<Screen> {
         [4, 8, 4097, 17, 5000],
         [u32::MAX; 5],
     ];
-    numbers.into_iter().map(|[a, b, n, k, g]| Screen { a, b, n, k, g }).collect()
+    numbers.into_iter().map(draw::record).chain(false_records()).collect()
+}
+
+/// Screens that store other numbers than those of their brick, four of them beyond another limit too.
+fn false_records() -> Vec<Screen> {
+    let s = draw::record([4, 7, 70, 2, 3]);
+    let mut screens = other_records(s);
+    let s = Screen { columns: 36, rows: 3, shift: 20, ..s };
+    screens.extend([
+        Screen { a: 7, ..s },
+        Screen { n: 4097, ..s },
+        Screen { k: 71, ..s },
+        Screen { g: 70, ..s },
+    ]);
+    screens
 }
 
 /// A separation number, seldom one that there is not.

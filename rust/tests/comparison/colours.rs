@@ -66,7 +66,7 @@ fn primaries(random: &mut Random) -> Vec<f64> {
 /// Good and bad values at every place, other bad ones before and after them.
 #[test]
 fn limits_of_primaries() {
-    let screen = Screen { a: 4, b: 7, n: 105, k: 2, g: 0 };
+    let screen = draw::record([4, 7, 105, 2, 0]);
     for place in 0..24 {
         for value in GOOD_VALUES.into_iter().chain(BAD_VALUES) {
             for other in [0, 12, 23] {
@@ -82,7 +82,7 @@ fn limits_of_primaries() {
 /// Every combination of signs of eight zeros; the sum is plus zero always.
 #[test]
 fn zeros_of_both_signs() {
-    let screen = Screen { a: 4, b: 7, n: 105, k: 2, g: 0 };
+    let screen = draw::record([4, 7, 105, 2, 0]);
     for signs in 0..256u32 {
         let zero = |value: usize| if signs >> (value / 3) & 1 == 1 { -0.0 } else { 0.0 };
         let primaries: Vec<f64> = (0..24).map(zero).collect();
@@ -99,7 +99,8 @@ fn limits_of_screens_and_lengths() {
         for separation in [0, 1, 2, u32::MAX] {
             for length in [0, 1, 8, 23, 24, 25, 48] {
                 for value in [3.5, -1.0] {
-                    let primaries = vec![value; length];
+                    let mut primaries = vec![value; length];
+                    primaries.iter_mut().take(3).for_each(|good| *good = 3.5);
                     compare(&ColourCase { screen, separation, inks: [1, 2, 3], primaries });
                 }
             }
@@ -126,7 +127,8 @@ fn any_primaries() {
 fn fulltones() {
     let mut random = Random::new(52);
     for n in 1..=4096 {
-        let screen = Screen { n, k: 1, g: 0, ..draw::screen(&mut random) };
+        let (a, b) = draw::slope(&mut random);
+        let screen = draw::record([a, b, n, 1, 0]);
         let inks = [0; 3].map(|_: u8| random.one_of(&[0, 255]));
         let primaries = (0..24).map(|_| value(&mut random)).collect();
         compare(&ColourCase { screen, separation: random.between(0, 1), inks, primaries });

@@ -1,7 +1,8 @@
 //! Both renderers on windows and images (rules 7.1 to 7.6).
 
 use crate::case::{
-    compare, differing, screen_words, separation_words, smaller_screens, smaller_windows, Case, Mismatch,
+    compare, differing, mended, screen_words, separation_words, smaller_screens, smaller_windows, Case,
+    Mismatch,
 };
 use crate::choose::{self, Length};
 use crate::guarded::{blank, Guarded};
@@ -77,8 +78,10 @@ enum Phases {
 }
 
 impl Phases {
-    /// The brick buffer; of a screen that isn't admitted it may be any (rule 3.8).
+    /// The brick buffer; where 1 to 4 refuse the screen it may be any (rule 3.8), and where 15 does, it is
+    /// that of the screen with a true record.
     fn brick(self, screen: Screen) -> Vec<u16> {
+        let screen = mended(screen);
         if screen_refusal(screen) != 0 {
             return vec![3, 1, 4, 1, 5];
         }
@@ -320,7 +323,7 @@ fn separations_that_there_are_not() {
 #[test]
 fn every_damaged_place_of_a_brick() {
     for [a, b, n, k, g] in [[4, 7, 70, 3, 5], [6, 7, 12, 2, 11], [5, 8, 3, 3, 1], [1, 2, 1, 1, 0]] {
-        let screen = Screen { a, b, n, k, g };
+        let screen = draw::record([a, b, n, k, g]);
         for place in 0..n {
             for value in [0, 1, n as u16 - 1, n as u16, 65_535] {
                 for columns in [0, 2] {
@@ -342,7 +345,7 @@ fn small_screens_on_small_windows() {
     for (a, b) in slopes {
         for n in 1..=24 {
             for k in 1..=n.min(16) {
-                let screen = Screen { a, b, n, k, g: random.between(0, n - 1) };
+                let screen = draw::record([a, b, n, k, random.between(0, n - 1)]);
                 let window = choose::window(&mut random, 20, 12);
                 let case = ImageCase::good(screen, random.between(0, 1), window, Image::draw(&mut random));
                 compare(&case);

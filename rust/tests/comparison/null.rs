@@ -7,7 +7,10 @@ use cavzemil_plain::{Screen, Window};
 use std::ptr::{null, null_mut};
 
 /// A screen that is admitted.
-const SCREEN: Screen = Screen { a: 4, b: 7, n: 70, k: 2, g: 3 };
+const SCREEN: Screen = Screen { a: 4, b: 7, n: 70, k: 2, g: 3, columns: 35, rows: 2, shift: 21 };
+
+/// A screen whose record is false.
+const FALSE: Screen = Screen { shift: 20, ..SCREEN };
 
 /// Renders a window from and to null pointers by both renderers, the second with a null brick.
 fn refusals(screen: Screen, window: Window) -> (u32, u32) {
@@ -25,6 +28,8 @@ fn empty_windows_take_null_pointers() {
     assert_eq!(refusals(SCREEN, Window { columns: 1, ..empty }), (5, 5));
     assert_eq!(refusals(SCREEN, Window { x: 0, columns: 1, ..empty }), (6, 6));
     assert_eq!(refusals(Screen { k: 17, ..SCREEN }, empty), (3, 3));
+    assert_eq!(refusals(FALSE, empty), (15, 15));
+    assert_eq!(refusals(FALSE, Window { columns: 1, ..empty }), (15, 15));
 }
 
 #[test]
@@ -57,6 +62,9 @@ fn bricks_plates_and_primaries_may_be_null() {
     assert_eq!(unsafe { ffi::cavzemil_pack(1, 1, null(), 0, null_mut(), 0) }, 6);
     assert_eq!(unsafe { ffi::cavzemil_unpack(65_537, 0, null(), 0, null_mut(), 0) }, 5);
     assert_eq!(unsafe { ffi::cavzemil_predict(s, DEMICHEL, 1, 2, 3, null(), 0) }.refusal, 6);
+    let s = c_screen(FALSE);
+    assert_eq!(unsafe { ffi::cavzemil_fill_brick(s, null_mut(), 0) }, 15);
+    assert_eq!(unsafe { ffi::cavzemil_predict(s, DEMICHEL, 1, 2, 3, null(), 0) }.refusal, 15);
 }
 
 #[test]
@@ -71,4 +79,6 @@ fn primaries_of_sets_may_be_null() {
     assert_eq!(refusal(SCREEN, KUEPPERS), 14);
     assert_eq!(refusal(Screen { g: 70, ..SCREEN }, KUEPPERS), 4);
     assert_eq!(refusal(Screen { g: 70, ..SCREEN }, 2), 100);
+    assert_eq!(refusal(FALSE, KUEPPERS), 15);
+    assert_eq!(refusal(FALSE, 2), 100);
 }

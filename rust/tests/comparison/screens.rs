@@ -1,4 +1,4 @@
-//! Places, brick sizes and brick buffers (rules 2.4, 3.5 and 3.7).
+//! Places, brick sizes and brick buffers (rules 2.4, 3.5 and 3.7), and what a screen stores (rule 17.1).
 
 use crate::case::{compare, differing, screen_words, smaller_numbers, smaller_screens, Case, Mismatch};
 use crate::guarded::Guarded;
@@ -122,7 +122,7 @@ fn all_slopes_with_few_cells() {
         for a in 0..=66 {
             let n = random.between(1, 70);
             let g = random.between(0, n - 1);
-            let screen = Screen { a, b, n, k: 1, g };
+            let screen = draw::record([a, b, n, 1, g]);
             compare(&BrickCase { screen, places: n + 2 });
         }
     }
@@ -133,7 +133,34 @@ fn all_slopes_with_few_cells() {
 fn all_cell_counts() {
     let mut random = Random::new(14);
     for n in 0..=4100 {
-        let screen = Screen { n, k: 1, g: 0, ..draw::screen(&mut random) };
+        let (a, b) = draw::slope(&mut random);
+        let screen = draw::record([a, b, n, 1, 0]);
         compare(&BrickCase { screen, places: n + 2 });
+    }
+}
+
+/// A screen with another number in one of the places columns, rows and shift.
+fn with_stored(s: Screen, place: u32, number: u32) -> Screen {
+    match place {
+        0 => Screen { columns: number, ..s },
+        1 => Screen { rows: number, ..s },
+        _ => Screen { shift: number, ..s },
+    }
+}
+
+/// Each stored number by itself: every value to beyond N, and each of its bits turned over.
+#[test]
+fn every_stored_number() {
+    let screens =
+        [[4, 7, 70, 2, 5], [6, 7, 12, 2, 11], [1, 2, 1, 1, 0], [63, 64, 63, 9, 0], [8, 9, 4096, 16, 4]];
+    for screen in screens.map(draw::record) {
+        let stored = [screen.columns, screen.rows, screen.shift];
+        for (place, number) in (0..).zip(stored) {
+            for other in (0..screen.n + 9).chain((0..32).map(|bit| number ^ 1 << bit)) {
+                let screen = with_stored(screen, place, other);
+                compare(&PlaceCase { screen, x: 9, y: 4 });
+                compare(&BrickCase { screen, places: screen.n });
+            }
+        }
     }
 }

@@ -1,7 +1,7 @@
 //! The compiled library's calls, in the plain implementation's types.
 
 use cavzemil::{calls, ffi};
-use cavzemil_plain::{Brick, Cell, Cellular, Charge, Counts, Inks, Place, Prediction, Rendering};
+use cavzemil_plain::{Brick, Cell, Cellular, Charge, Counts, Inks, Made, Place, Prediction, Rendering};
 use cavzemil_plain::{Screen, Window};
 
 /// Plates are bytes on both sides, so these two calls need no translation.
@@ -9,7 +9,8 @@ pub use cavzemil::calls::{pack, unpack};
 
 /// A screen as the C interface takes it.
 pub fn c_screen(s: Screen) -> ffi::Screen {
-    ffi::Screen { a: s.a, b: s.b, n: s.n, k: s.k, g: s.g }
+    let Screen { a, b, n, k, g, columns, rows, shift } = s;
+    ffi::Screen { a, b, n, k, g, columns, rows, shift }
 }
 
 /// A window as the C interface takes it.
@@ -20,6 +21,32 @@ pub fn c_window(w: Window) -> ffi::Window {
 /// A rendering from the C interface.
 fn rendering(answer: ffi::Rendering) -> Rendering {
     Rendering { refusal: answer.refusal, tallies: answer.tallies }
+}
+
+/// A screen from the C interface, with its refusal.
+fn made(answer: ffi::Made) -> Made {
+    let ffi::Screen { a, b, n, k, g, columns, rows, shift } = answer.screen;
+    Made { refusal: answer.refusal, screen: Screen { a, b, n, k, g, columns, rows, shift } }
+}
+
+/// The screen of five numbers.
+pub fn make_screen(a: u32, b: u32, n: u32, k: u32, g: u32) -> Made {
+    made(calls::make_screen(a, b, n, k, g))
+}
+
+/// The screen with another offset.
+pub fn replace_offset(s: Screen, g: u32) -> Made {
+    made(calls::replace_offset(c_screen(s), g))
+}
+
+/// The screen with another number of subscreens.
+pub fn replace_subscreens(s: Screen, k: u32) -> Made {
+    made(calls::replace_subscreens(c_screen(s), k))
+}
+
+/// The screen with another cell count.
+pub fn replace_cells(s: Screen, n: u32) -> Made {
+    made(calls::replace_cells(c_screen(s), n))
 }
 
 /// The phase of a place.

@@ -1,72 +1,31 @@
--- `screen::refusal` meets its contract: each way out has the tests that led there, and the law of its number.
--- Assumes nothing.
+-- `screen::refusal` meets its contract: 1 to 4 by the five numbers, then 15 by the stored ones. Assumes nothing.
+use mathlib.Core.Path.{sym, _∙_}
 use borrow.Author.Needs.{needs}
-use borrow.Author.Tests.{lt-ltb, le-ltb}
-use Rattle.screen.specs.Screens.{offsetAdmitted}
 use Rattle.arith.proofs.RefusalLaws.{failed, passed}
-use Rattle.screen.proofs.Refusals.{refused-1, refused-2, refused-3, refused-4, admitted}
+use Rattle.screen.proofs.Refusals.{limits-of, refused-numbers, refused-15, stored-admitted}
 use Rattle.screen.proofs.refusal.Statement.{statement}
 use Rattle.screen.proofs.refusal.Tie as tie
 
-slope-admitted-requires : tie.Need-slope-admitted-requires
-slope-admitted-requires c κs = search needs
+numbers-refusal-requires : tie.Need-numbers-refusal-requires
+numbers-refusal-requires c κs = search needs
 
 returns : tie.Need-returns
-returns c = refused-1 _ (failed (c .before .slope-admitted .ensures) (c .if1 .taken))
+returns c =
+    let e = c .before .numbers-refusal .ensures in
+    e ∙ refused-numbers _ (λ z. c .if1 .taken (e ∙ z))
 
-cells-admitted-requires : tie.Need-cells-admitted-requires
-cells-admitted-requires c κs = search needs
+stored-true-requires : tie.Need-stored-true-requires
+stored-true-requires c κs = limits-of _ (sym (c .before .numbers-refusal .ensures) ∙ c .if1 .left)
 
 returns-2 : tie.Need-returns-2
 returns-2 c =
-    let slope = c .before .before in
-    refused-2 _ (passed (slope .before .slope-admitted .ensures) (slope .if1 .left)) (failed (c .before .cells-admitted .ensures) (c .if2 .taken))
-
-subscreens-admitted-requires : tie.Need-subscreens-admitted-requires
-subscreens-admitted-requires c κs = search needs
+    let tested = c .before .before in
+    refused-15 _ (sym (tested .before .numbers-refusal .ensures) ∙ tested .if1 .left) (failed (c .before .stored-true .ensures) (c .if2 .taken))
 
 returns-3 : tie.Need-returns-3
 returns-3 c =
-    let cells = c .before .before in
-    let slope = cells .before .before in
-    refused-3 _
-    (passed (slope .before .slope-admitted .ensures) (slope .if1 .left))
-    (passed (cells .before .cells-admitted .ensures) (cells .if2 .left))
-    (failed (c .before .subscreens-admitted .ensures) (c .if3 .taken))
-
-returns-4 : tie.Need-returns-4
-unfolding offsetAdmitted
-returns-4 c =
-    let subscreens = c .before .before in
-    let cells = subscreens .before .before in
-    let slope = cells .before .before in
-    refused-4 _
-    (passed (slope .before .slope-admitted .ensures) (slope .if1 .left))
-    (passed (cells .before .cells-admitted .ensures) (cells .if2 .left))
-    (passed (subscreens .before .subscreens-admitted .ensures) (subscreens .if3 .left))
-    (le-ltb _ _ (c .if4 .taken))
-
-returns-5 : tie.Need-returns-5
-unfolding offsetAdmitted
-returns-5 c =
-    let subscreens = c .before .before in
-    let cells = subscreens .before .before in
-    let slope = cells .before .before in
-    admitted _
-    (passed (slope .before .slope-admitted .ensures) (slope .if1 .left))
-    (passed (cells .before .cells-admitted .ensures) (cells .if2 .left))
-    (passed (subscreens .before .subscreens-admitted .ensures) (subscreens .if3 .left))
-    (lt-ltb _ _ (c .if4 .left))
+    let tested = c .before .before in
+    stored-admitted _ (sym (tested .before .numbers-refusal .ensures) ∙ tested .if1 .left) (passed (c .before .stored-true .ensures) (c .if2 .left))
 
 pub refusal-spec : {M : Type 1} → statement M
-refusal-spec =
-    tie.close
-    (tie.spec
-    slope-admitted-requires
-    returns
-    cells-admitted-requires
-    returns-2
-    subscreens-admitted-requires
-    returns-3
-    returns-4
-    returns-5)
+refusal-spec = tie.close (tie.spec numbers-refusal-requires returns stored-true-requires returns-2 returns-3)

@@ -8,7 +8,7 @@ use cavzemil_plain::random::Random;
 use cavzemil_plain::{colorant_order, colorant_sets, set_weights, Inks, Screen};
 
 /// The screen, the ink values and the counts of rule 12.3.
-const SCREEN: Screen = Screen { a: 4, b: 7, n: 105, k: 1, g: 0 };
+const SCREEN: Screen = Screen { a: 4, b: 7, n: 105, k: 1, g: 0, columns: 105, rows: 1, shift: 28 };
 const INKS: Inks = [128, 128, 0];
 const COUNTS: [u32; 8] = [26, 26, 0, 27, 0, 0, 0, 26];
 
@@ -260,7 +260,7 @@ fn full_tones_come_back_exactly() {
             let own = random.one_of(&[whole, [whole[0], -0.0, 200.0], [-0.0; 3]]);
             put(&mut primaries, 1 << colorant, own);
             let separation = random.one_of(&[DEMICHEL, KUEPPERS]);
-            let found = colour(Screen { n, ..SCREEN }, separation, inks, &primaries);
+            let found = colour(draw::record([4, 7, n, 1, 0]), separation, inks, &primaries);
             assert_eq!(found.map(f64::to_bits), own.map(|value| value.abs().to_bits()), "N = {n}, {inks:?}");
         }
     }

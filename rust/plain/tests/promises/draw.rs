@@ -1,14 +1,22 @@
-//! Admitted screens and ink values drawn by chance, the rare shapes no rarer than the common ones.
+//! Records of screens; admitted screens and ink values drawn by chance, the rare shapes no rarer than the
+//! common ones.
 
 use cavzemil_plain::random::Random;
-use cavzemil_plain::{screen_refusal, Inks, Screen};
+use cavzemil_plain::{make_screen, Inks, Screen};
+
+/// The record of a, b, N, K and g: it stores the brick of a, b and N or, where 1 or 2 refuses these, three
+/// zeros.
+pub fn record([a, b, n, k, g]: [u32; 5]) -> Screen {
+    let Screen { columns, rows, shift, .. } = make_screen(a, b, n, 1, 0).screen;
+    Screen { a, b, n, k, g, columns, rows, shift }
+}
 
 /// An admitted slope.
-fn slope(random: &mut Random) -> (u32, u32) {
+pub fn slope(random: &mut Random) -> (u32, u32) {
     loop {
         let a = random.between(1, 63);
         let b = random.between(a + 1, 64);
-        if screen_refusal(Screen { a, b, n: 1, k: 1, g: 0 }) == 0 {
+        if make_screen(a, b, 1, 1, 0).refusal == 0 {
             return (a, b);
         }
     }
@@ -21,7 +29,7 @@ fn divisor(random: &mut Random, a: u32) -> u32 {
 }
 
 /// A cell count: small, at most a, a multiple of a or of one of its divisors, middling, large, the limit.
-fn cell_count(random: &mut Random, a: u32) -> u32 {
+pub fn cell_count(random: &mut Random, a: u32) -> u32 {
     match random.between(0, 6) {
         0 => random.between(1, 16),
         1 => random.between(1, a),
@@ -45,7 +53,7 @@ pub fn screen(random: &mut Random) -> Screen {
     let k = random.one_of(&[1, most, any]);
     let any = random.between(0, n - 1);
     let g = random.one_of(&[0, n - 1, any]);
-    Screen { a, b, n, k, g }
+    record([a, b, n, k, g])
 }
 
 /// Ink values: any, near the ends and the middle, or with equal ones among them.

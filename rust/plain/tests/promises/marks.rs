@@ -1,6 +1,7 @@
 //! The worked examples (rules 12.1 to 12.7, 12.9 and 12.10), the examples of refusals (rules 11.5 to 11.13
 //! and rule 11.15), and some small plates and colours.
 
+use super::draw::record;
 use super::{DEMICHEL, KUEPPERS};
 use crate::subject::{
     brick_of, cell_at, counts_of, fill_brick, pack, phase_at, predict, render, render_brick, unpack,
@@ -9,7 +10,7 @@ use cavzemil_plain::{subscreen_of, Brick, Cell, Place, Screen, Window};
 
 /// The screen 4/7 with so many cells, one subscreen and no offset.
 fn four_sevenths(n: u32) -> Screen {
-    Screen { a: 4, b: 7, n, k: 1, g: 0 }
+    record([4, 7, n, 1, 0])
 }
 
 /// The screen of rules 12.4 and 12.8: 4/7, N = 105, K = 2.
@@ -18,7 +19,7 @@ fn first_screen() -> Screen {
 }
 
 /// The screen of rule 12.6, which has one cell.
-const ONE_CELL: Screen = Screen { a: 1, b: 2, n: 1, k: 1, g: 0 };
+const ONE_CELL: Screen = Screen { a: 1, b: 2, n: 1, k: 1, g: 0, columns: 1, rows: 1, shift: 0 };
 
 /// The ink values of rules 12.3 and 12.4.
 const FIRST_INKS: [u8; 3] = [128, 128, 0];
@@ -114,7 +115,7 @@ fn the_last_column_and_the_last_offset_pass() {
 /// Rules 11.5 to 11.9.
 #[test]
 fn screens_and_places_are_refused_as_in_the_examples() {
-    let refusal = |a, b, n, k, g| brick_of(Screen { a, b, n, k, g }).refusal;
+    let refusal = |a, b, n, k, g| brick_of(record([a, b, n, k, g])).refusal;
     assert_eq!(refusal(4, 8, 70, 1, 0), 1);
     assert_eq!(refusal(4, 7, 0, 1, 0), 2);
     assert_eq!(refusal(4, 7, 5, 6, 0), 3);

@@ -4,7 +4,9 @@
 pub mod bills;
 mod cellular;
 pub mod draw;
+pub mod false_records;
 mod finished_windows;
+pub mod making;
 mod marks;
 
 /// The number of Demichel's separation (rule 14.3).

@@ -30,20 +30,21 @@ colourless-requires-2 c κs = search needs
 returns-2 : tie.Need-returns-2
 returns-2 c =
     let refusal = c .before .before in
-    let sep = refusal .before .before in
-    let e = rw (refusal .before .screen-of .ensures) at (refusal .refusal .ensures) in
-    prediction-screen _ _ _ _ (passed (sep .before .before .is-known .ensures) (sep .before .if1 .left)) (λ z. c .before .if2 .taken (e ∙ z)) (rw e at (c .colourless2 .ensures))
+    let length = refusal .before in
+    let sep = length .before .before in
+    let e = rw (length .before .screen-of .ensures) at (refusal .refusal .ensures) in
+    prediction-screen _ _ _ _ (passed (sep .before .before .is-known .ensures) (sep .before .if1 .left)) (λ z. c .before .if3 .taken (e ∙ z)) (rw e at (c .colourless2 .ensures))
 
 colourless-requires-3 : tie.Need-colourless-requires-3
 colourless-requires-3 c κs = search needs
 
 returns-3 : tie.Need-returns-3
 returns-3 c =
-    let tested = c .before .before in
-    let refusal = tested .before in
-    let sep = refusal .before .before in
-    let e = rw (refusal .before .screen-of .ensures) at (refusal .refusal .ensures) in
-    prediction-length _ _ _ _ (passed (sep .before .before .is-known .ensures) (sep .before .if1 .left)) (sym e ∙ tested .if2 .left) (c .before .if3 .taken) (c .colourless3 .ensures)
+    let refusal = c .before .before in
+    let length = refusal .before in
+    let sep = length .before .before in
+    let e = rw (length .before .screen-of .ensures) at (refusal .refusal .ensures) in
+    prediction-length _ _ _ _ (passed (sep .before .before .is-known .ensures) (sep .before .if1 .left)) (sym e ∙ c .before .if3 .left) (length .if2 .taken) (c .colourless3 .ensures)
 
 primaries-in-requires : tie.Need-primaries-in-requires
 primaries-in-requires c κs = search needs
@@ -63,12 +64,9 @@ returns-4 c =
     let inks = call .before in
     let eight = inks .before in
     let long = eight .before in
-    let refusal = long .before .before in
-    let sep = refusal .before .before in
-    let screen = refusal .before .screen-of .ensures in
-    let e = rw screen at (refusal .refusal .ensures) in
-    prediction-ruled _ _ _ _ (passed (sep .before .before .is-known .ensures) (sep .before .if1 .left)) (sym e ∙ long .before .if2 .left) (long .if3 .left) (c .numbered .ensures)
-    (rw (screen, sep .separation-of .ensures, inks .inks-of .ensures, eight .primaries-in .ensures) at (call .predict .ensures .1))
+    let sep = long .before .before in
+    prediction-ruled _ _ _ _ (passed (sep .before .before .is-known .ensures) (sep .before .if1 .left)) (long .if2 .left) (c .numbered .ensures)
+    (rw (long .before .screen-of .ensures, sep .separation-of .ensures, inks .inks-of .ensures, eight .primaries-in .ensures) at (call .predict .ensures .1))
 
 pub cavzemil-predict-spec : {M : Type 1} → statement M
 cavzemil-predict-spec =

@@ -1,10 +1,12 @@
 -- `counts_text::parsers::screen_line` meets its contract: the head of the line and then its numbers are those of a screen. Assumes nothing.
-use mathlib.Core.Path.{refl, sym, _∙_}
+use mathlib.Core.Path.{refl, sym, ap, _∙_}
 use native.Mathlib.Omega.{arith}
 use lib.ListN.{take}
 use lib.Seq.{length-take-le}
 use borrow.Author.Needs.{needs}
 use borrow.Author.Tests.{not-false}
+use Rattle.screen.specs.declared.making.Made.{Made}
+use Rattle.screen.proofs.Published.{made-words, made-admitted}
 use Rattle.counts_text.proofs.LineLaws.{rest-failed, rest-passed, begun-length}
 use Rattle.counts_text.proofs.HeadLaws.{headS}
 use Rattle.counts_text.proofs.FirstLine.{not-found, next-line, screen-unended, screen-unheaded, screen-unread, screen-is, screen-judged}
@@ -63,52 +65,54 @@ returns-3 c =
     let line = take (found .before .place-of .result) (found .before .before .before .args .text .now) in
     screen-unread _ _ (place .0) (place .1) (found .if1 .left) head (rest-failed 2 line (read .ensures) (c .if3 .taken))
 
-array-read-t21 : tie.Need-array-read-t21
-array-read-t21 c = search needs
+array-read-make : tie.Need-array-read-make
+array-read-make c = search needs
 
-array-read-t24 : tie.Need-array-read-t24
-array-read-t24 c = search needs
+array-read-make-2 : tie.Need-array-read-make-2
+array-read-make-2 c = search needs
 
-array-read-t27 : tie.Need-array-read-t27
-array-read-t27 c = search needs
+array-read-make-3 : tie.Need-array-read-make-3
+array-read-make-3 c = search needs
 
-array-read-t30 : tie.Need-array-read-t30
-array-read-t30 c = search needs
+array-read-make-4 : tie.Need-array-read-make-4
+array-read-make-4 c = search needs
 
-array-read-t33 : tie.Need-array-read-t33
-array-read-t33 c = search needs
+array-read-make-5 : tie.Need-array-read-make-5
+array-read-make-5 c = search needs
 
-refusal-requires : tie.Need-refusal-requires
-refusal-requires c κs = search needs
+make-requires : tie.Need-make-requires
+make-requires c κs = search needs
 
 returns-4 : tie.Need-returns-4
 returns-4 c =
-    let read = c .before .before .before .before .numbers in
-    let headed = c .before .before .before .before .before .before .before in
+    let read = c .before .before .before .before .before .numbers in
+    let headed = c .before .before .before .before .before .before .before .before in
     let found = headed .before .before .before .before in
     let place = found .before .place-of .ensures in
     let head = headed .before .begins .ensures .0 (not-false _ (headed .if2 .left)) in
     let line = take (found .before .place-of .result) (found .before .before .before .args .text .now) in
-    let numbers = rest-passed 2 line (read .ensures) (c .before .before .if3 .left) in
-    let refused = c .before .refusal .ensures in
-    (screen-judged _ _ (place .0) (place .1) (found .if1 .left) head _ (numbers .0) (numbers .1) ∙ sym refused, omega (arith, c .if4 .taken))
+    let numbers = rest-passed 2 line (read .ensures) (c .before .before .before .if3 .left) in
+    let made = c .before .before .make .ensures in
+    (screen-judged _ _ (place .0) (place .1) (found .if1 .left) head _ (numbers .0) (numbers .1) ∙ sym (made-words _ _ _ _ _ .0) ∙ sym (ap (λ (m : Made). m .refusal) made), omega (arith, c .if4 .taken))
 
 add-t8 : tie.Need-add-t8
 add-t8 c = search needs
 
 returns-5 : tie.Need-returns-5
 returns-5 c =
-    let read = c .before .before .before .before .numbers in
-    let headed = c .before .before .before .before .before .before .before in
+    let read = c .before .before .before .before .before .before .numbers in
+    let headed = c .before .before .before .before .before .before .before .before .before in
     let found = headed .before .before .before .before in
     let place = found .before .place-of .ensures in
     let head = headed .before .begins .ensures .0 (not-false _ (headed .if2 .left)) in
     let line = take (found .before .place-of .result) (found .before .before .before .args .text .now) in
-    let numbers = rest-passed 2 line (read .ensures) (c .before .before .if3 .left) in
-    let admitted = sym (c .before .refusal .ensures) ∙ c .if4 .left in (
-      screen-judged _ _ (place .0) (place .1) (found .if1 .left) head _ (numbers .0) (numbers .1) ∙ admitted,
-      screen-is _ _ (place .0) (place .1) (found .if1 .left) head _ (numbers .0) (numbers .1),
-      admitted,
+    let numbers = rest-passed 2 line (read .ensures) (c .before .before .before .before .if3 .left) in
+    let made = c .before .before .before .make .ensures in
+    let served = sym (ap (λ (m : Made). m .refusal) made) ∙ c .before .if4 .left in
+    let screen = ap (λ (m : Made). m .screen) made in (
+      screen-judged _ _ (place .0) (place .1) (found .if1 .left) head _ (numbers .0) (numbers .1) ∙ sym (made-words _ _ _ _ _ .0) ∙ served,
+      screen ∙ made-words _ _ _ _ _ .2 served ∙ screen-is _ _ (place .0) (place .1) (found .if1 .left) head _ (numbers .0) (numbers .1),
+      rw screen (made-admitted _ _ _ _ _ served),
       next-line _ _ (place .0) (place .1) (found .if1 .left),
     )
 
@@ -128,12 +132,12 @@ screen-line-spec =
     slice-aggregate-numbers
     numbers-requires
     returns-3
-    array-read-t21
-    array-read-t24
-    array-read-t27
-    array-read-t30
-    array-read-t33
-    refusal-requires
+    array-read-make
+    array-read-make-2
+    array-read-make-3
+    array-read-make-4
+    array-read-make-5
+    make-requires
     returns-4
     add-t8
     returns-5)

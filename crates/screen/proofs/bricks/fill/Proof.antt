@@ -1,13 +1,12 @@
 -- `screen::bricks::fill` meets its contract, by the laws of its loop (FillLoop). The measure is how many places are left.
 -- Assumes nothing.
-use Prim.Native.Nat.{ℕ, _-_, _/_}
-use mathlib.Core.Path.{ap, sym, _∙_}
+use Prim.Native.Nat.{_-_}
+use mathlib.Core.Path.{sym, _∙_}
 use mathlib.Core.Logic.{⊎-elim}
 use native.Mathlib.Nat.{le-of-lt, mod-lt, div-le-self}
 use native.Mathlib.Omega.{arith}
 use borrow.Author.Needs.{needs}
 use Rattle.arith.specs.Gcd.{gcdOf}
-use Rattle.screen.proofs.BrickLaws.{rows-pos}
 use Rattle.screen.proofs.FillLoop.{FillAt, fill-start, fill-phase, fill-column, fill-length, fill-right, fill-down, fill-end}
 use Rattle.screen.proofs.bricks.fill.Statement.{statement}
 use Rattle.screen.proofs.bricks.fill.Tie as tie
@@ -18,12 +17,6 @@ Inv-loop brick₀ a b n g columns right down phase₀ column₀ place₀ brick p
 abbrev μ-loop : tie.MeasureT-loop
 μ-loop brick₀ a b n g columns right down phase₀ column₀ place₀ brick phase column place = n - place
 
-gcd-requires : tie.Need-gcd-requires Inv-loop μ-loop
-gcd-requires c κs = search needs
-
-div-columns : tie.Need-div-columns Inv-loop μ-loop
-div-columns c = rw (c .gcd .ensures) (rows-pos _ _ (c .before .before .pre .0))
-
 rem-right : tie.Need-rem-right Inv-loop μ-loop
 rem-right c = search needs
 
@@ -31,7 +24,7 @@ rem-down : tie.Need-rem-down Inv-loop μ-loop
 rem-down c = search needs
 
 sub-down : tie.Need-sub-down Inv-loop μ-loop
-sub-down c = le-of-lt (mod-lt _ (c .before .before .pre .0))
+sub-down c = le-of-lt (mod-lt _ (c .before .pre .0))
 
 sub-carry : tie.Need-sub-carry Inv-loop μ-loop
 sub-carry c = search needs
@@ -41,12 +34,12 @@ carry-requires c κs = search needs
 
 loop-holds : tie.Need-loop-holds Inv-loop μ-loop
 loop-holds c =
-    let start = c .before .before .before in
+    let start = c .before .before in
     fill-start _ _ _ _ (start .pre .0) _ _ (start .pre .2) (c .carry .ensures .0)
 
 cast-brick : tie.Need-cast-brick Inv-loop μ-loop
 cast-brick c =
-    let start = c .before .before .before .before .before in
+    let start = c .before .before .before .before in
     omega (arith, fill-phase (start .pre .0) (c .before .loop .inv))
 
 cast-brick-2 : tie.Need-cast-brick-2 Inv-loop μ-loop
@@ -57,22 +50,22 @@ mul-brick c = search needs
 
 slice-write-brick : tie.Need-slice-write-brick Inv-loop μ-loop
 slice-write-brick c =
-    let start = c .before .before .before .before .before in
-    omega (arith, fill-length (start .pre .0) (c .before .loop .inv) (start .pre .3))
+    let start = c .before .before .before .before in
+    omega (arith, fill-length (start .pre .0) (c .before .loop .inv) (start .pre .4))
 
 carry-requires-2 : tie.Need-carry-requires-2 Inv-loop μ-loop
 carry-requires-2 c κs =
-    let start = c .before .before .before .before .before in
+    let start = c .before .before .before .before in
     (fill-phase (start .pre .0) (c .before .loop .inv), le-of-lt (mod-lt _ (start .pre .0)), start .pre .1)
 
 add-column : tie.Need-add-column Inv-loop μ-loop
 add-column c =
-    let start = c .before .before .before .before .before .before in
+    let start = c .before .before .before .before .before in
     omega (arith, fill-column (start .pre .0) (c .before .before .loop .inv), div-le-self (start .args .n) (gcdOf (start .args .a) (start .args .n)))
 
 carry-requires-3 : tie.Need-carry-requires-3 Inv-loop μ-loop
 carry-requires-3 c κs =
-    let start = c .before .before .before .before .before .before .before in
+    let start = c .before .before .before .before .before .before in
     (c .before .carry2 .ensures .1, omega (arith, mod-lt (start .args .a) (start .pre .0)), start .pre .1)
 
 add-place : tie.Need-add-place Inv-loop μ-loop
@@ -84,22 +77,22 @@ loop-less c = search needs
 loop-again : tie.Need-loop-again Inv-loop μ-loop
 loop-again c =
     let turn = c .before .before in
-    let start = turn .before .before .before .before .before in
+    let start = turn .before .before .before .before in
     let fill = turn .before .loop .inv in
-    let columns = ap (λ (h : ℕ). start .args .n / h) (turn .before .before .before .gcd .ensures) in
+    let columns = start .pre .3 in
     ⊎-elim
-    (λ w. rw (w .2, w .3) (fill-down (start .pre .0) fill _ _ (start .pre .3) (turn .loop-test .taken) (c .before .carry2 .ensures .0) (w .0 .taken ∙ columns) (w .1 .ensures .0)))
-    (λ w. rw (w .1, w .2) (fill-right (start .pre .0) fill _ (start .pre .3) (turn .loop-test .taken) (c .before .carry2 .ensures .0) (λ e. w .0 .left (e ∙ sym columns))))
+    (λ w. rw (w .2, w .3) (fill-down (start .pre .0) fill _ _ (start .pre .4) (turn .loop-test .taken) (c .before .carry2 .ensures .0) (w .0 .taken ∙ columns) (w .1 .ensures .0)))
+    (λ w. rw (w .1, w .2) (fill-right (start .pre .0) fill _ (start .pre .4) (turn .loop-test .taken) (c .before .carry2 .ensures .0) (λ e. w .0 .left (e ∙ sym columns))))
     (c .if1 .came)
 
 same-length : tie.Need-same-length Inv-loop μ-loop
 same-length c =
-    let start = c .before .before .before .before .before in
-    fill-length (start .pre .0) (c .before .loop .inv) (start .pre .3)
+    let start = c .before .before .before .before in
+    fill-length (start .pre .0) (c .before .loop .inv) (start .pre .4)
 
 returns : tie.Need-returns Inv-loop μ-loop
 returns c =
-    let start = c .before .before .before .before .before in
+    let start = c .before .before .before .before in
     fill-end (start .pre .0) (c .before .loop .inv) (c .loop-test .left)
 
 pub fill-spec : {M : Type 1} → statement M
@@ -108,8 +101,6 @@ fill-spec =
     (tie.spec
     Inv-loop
     μ-loop
-    gcd-requires
-    div-columns
     rem-right
     rem-down
     sub-down

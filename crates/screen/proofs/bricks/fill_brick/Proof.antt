@@ -3,7 +3,7 @@ use mathlib.Core.Path.{sym, _∙_}
 use native.Mathlib.Omega.{arith}
 use borrow.Author.Needs.{needs}
 use Rattle.screen.specs.Brick.{brickPhases}
-use Rattle.screen.proofs.Refusals.{limits-kept, buffer-refused, buffer-short, buffer-fits, filled-none, filled-whole}
+use Rattle.screen.proofs.Refusals.{limits-kept, stored-kept, buffer-refused, buffer-short, buffer-fits, filled-none, filled-whole}
 use Rattle.screen.proofs.bricks.fill_brick.Statement.{statement}
 use Rattle.screen.proofs.bricks.fill_brick.Tie as tie
 
@@ -28,8 +28,9 @@ returns-2 c =
 fill-requires : tie.Need-fill-requires
 fill-requires c κs =
     let tested = c .before .before in
-    let limits = limits-kept _ (sym (tested .before .refusal .ensures) ∙ tested .if1 .left) in
-    (limits .cells-above, limits .cells-limit, limits .offset-below, c .before .if2 .left)
+    let ok = sym (tested .before .refusal .ensures) ∙ tested .if1 .left in
+    let limits = limits-kept _ ok in
+    (limits .cells-above, limits .cells-limit, limits .offset-below, stored-kept _ ok .columns-true, c .before .if2 .left)
 
 same-length : tie.Need-same-length
 same-length c = search needs

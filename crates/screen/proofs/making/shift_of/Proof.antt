@@ -1,16 +1,16 @@
--- `screen::bricks::shift_of` meets its contract, by the laws of its loop (ShiftLoop). The measure is how far the shift is.
+-- `screen::making::shift_of` meets its contract, by the laws of its loop (ShiftLoop). The measure is how far the shift is.
 -- Assumes nothing.
 use Prim.Native.Nat.{_<_, _-_}
 use native.Mathlib.Nat.{le-of-lt, mod-lt, mul-le-mul}
 use native.Mathlib.Omega.{arith}
 use borrow.Author.Needs.{needs}
-use Rattle.screen.specs.Brick.{shiftOf}
+use Rattle.screen.specs.Sizes.{shiftOf}
 use Rattle.screen.proofs.BrickLaws.{rows-le, shift-limit}
 use Rattle.screen.proofs.ShiftLoop.{ShiftAt, shift-start, reached-below, shift-ahead, shift-step, shift-end}
-use Rattle.screen.proofs.bricks.shift_of.Statement.{statement}
-use Rattle.screen.proofs.bricks.shift_of.Tie as tie
-use Rattle.screen.proofs.bricks.shift_of.Reads as reads
-use Rattle.screen.proofs.bricks.shift_of.Lts as lts
+use Rattle.screen.proofs.making.shift_of.Statement.{statement}
+use Rattle.screen.proofs.making.shift_of.Tie as tie
+use Rattle.screen.proofs.making.shift_of.Reads as reads
+use Rattle.screen.proofs.making.shift_of.Lts as lts
 use Rattle.screen.proofs.bricks.carry.Reads as carry-reads
 
 abbrev Inv-loop : tie.InvT-loop
