@@ -30,6 +30,16 @@ def show_table(s, places):
     print(f"{five(s)}, {places}: {lent(s, places, 24, thresholds)}")
 
 
+def show_counted(s):
+    for sep in SEPARATIONS:
+        print(f"{case(s, sep, (51, 102, 204))} {numbers(counts(s, sep, (51, 102, 204)))}")
+
+
+def show_lone(s):
+    known = [] if refusal(s) else thresholds(s)
+    print(f"{five(s)}: {numbers(known[p] if p < len(known) else 0 for p in [*range(22), TOP])}")
+
+
 def show_phases(s, inks):
     for sep in SEPARATIONS:
         found = colorants(s, sep, inks)
@@ -86,6 +96,11 @@ for screen in [
     print(stored(screen))
     show_both(Screen(*screen), (51, 102, 204))
 
+print("# a b n k g, separation, c m y: counts, whatever the screen")
+for screen in [(4, 7, 105, 2, 0), (4, 8, 20, 3, 0), (4, 7, 0, 2, 0), (4, 7, TOP, 2, 0)]:
+    show_counted(screen_of(*screen))
+show_counted(Screen(4, 7, 105, 2, 0, 105, 1, 133))
+
 print("# a b n k g, places: refusal; the table, every place 65535 before")
 for screen, places in [
     ((4, 7, 20, 3, 0), 24), ((4, 7, 20, 3, 0), 21), ((4, 7, 20, 3, 0), 20), ((4, 7, 20, 3, 0), 19), ((4, 7, 20, 3, 0), 0),
@@ -99,6 +114,15 @@ for screen, places in [
 ]:
     print(stored(screen))
     show_table(Screen(*screen), places)
+
+print("# a b n k g: the thresholds of phases 0 to 21 and 4294967295, one by one")
+for screen in [
+    (4, 7, 20, 3, 0), (4, 7, 20, 1, 19), (4, 7, 20, 16, 0), (4, 7, 16, 16, 0), (1, 2, 1, 1, 0), (4, 8, 20, 3, 0),
+]:
+    show_lone(screen_of(*screen))
+false_shift = 4, 7, 20, 3, 0, 5, 4, 7
+print(stored(false_shift))
+show_lone(Screen(*false_shift))
 
 print("# a b n k g, separation, c m y: the colorant of each phase")
 for screen, inks in [

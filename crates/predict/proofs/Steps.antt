@@ -11,15 +11,14 @@ use lib.IntN.{pos}
 use lib.ListN.{getD}
 use lib.Ieee.{Float, binary64, div, ofInt}
 use borrow.Author.Tests.{eq-eqb, ne-eqb, lt-ltb, le-ltb}
+use Rattle.arith.specs.Run.{upto}
 use Rattle.arith.proofs.FirstLaws.{first-none}
+use Rattle.arith.proofs.RunLaws.{upto-at}
 use Rattle.screen.specs.declared.Screen.{Screen}
 use Rattle.screen.specs.Screens.{refusalOf, Admitted}
 use Rattle.separation.specs.declared.Separation.{Separation}
 use Rattle.separation.specs.declared.Inks.{Inks}
-use Rattle.quantiser.specs.declared.answer.Counts.{Counts}
-use Rattle.quantiser.specs.Running.{count, countsOf}
-use Rattle.arith.proofs.RunLaws.{upto-at}
-use Rattle.quantiser.proofs.Published.{counts-answered}
+use Rattle.quantiser.specs.Running.{count}
 use Rattle.predict.specs.declared.Xyz.{Xyz}
 use Rattle.predict.specs.declared.Prediction.{Prediction}
 use Rattle.predict.specs.declared.Prediction.the-variants.{BadPrimary, BadScreen}
@@ -72,18 +71,6 @@ pub bad-none : (ps : List Xyz) → AllAdmitted ps → firstBad ps ≡ 8
 unfolding firstBad
 bad-none ps good = first-none 8 (bad ps) (λ j l. ap not (good j l))
 
--- ---- the counts that `quantiser` answers
-
-module _ (s : Screen) (sep : Separation) (inks : Inks) (counts : Counts) (e : counts ≡ countsOf s sep inks) where
-  pub counts-refusal : counts .refusal ≡ refusalOf s
-  counts-refusal = ap (λ (k : Counts). k .refusal) e ∙ counts-answered s sep inks .0
-
-  pub counts-admitted : counts .refusal ≡ 0 → Admitted s
-  counts-admitted h = sym counts-refusal ∙ h
-
-  pub counts-are : Admitted s → (j : ℕ) → j < 8 → getD (counts .of) j 0 ≡ count s sep inks j
-  counts-are ok j l = rw (e, counts-answered s sep inks .1 ok) (upto-at (count s sep inks) 8 j l)
-
 -- ---- the answer
 
 module _ (s : Screen) (sep : Separation) (inks : Inks) (ps : List Xyz) where
@@ -113,19 +100,15 @@ module _ (s : Screen) (sep : Separation) (inks : Inks) (ps : List Xyz) where
   pub promised : (r : Prediction) → r ≡ predicted s sep inks ps → (r ≡ predicted s sep inks ps) × (numberedOf r ≡ ruled s sep inks ps)
   promised r e = (e, ap numberedOf e ∙ numbered-ruled)
 
-  -- from the counts that `quantiser` answers
-  pub screen-refused : (counts : Counts) → counts ≡ countsOf s sep inks → (counts .refusal ≡ 0 → ⊥) → BadScreen (counts .refusal) ≡ predicted s sep inks ps
-  screen-refused counts e h =
-      let r = counts-refusal s sep inks counts e in
-      ap BadScreen r ∙ sym (predicted-screen (λ z. h (r ∙ z)))
+  -- from the screen's refusal, and the counts
+  pub screen-refused : (refused : ℕ) → refused ≡ refusalOf s → (refused ≡ 0 → ⊥) → BadScreen refused ≡ predicted s sep inks ps
+  screen-refused refused e h = ap BadScreen e ∙ sym (predicted-screen (λ z. h (e ∙ z)))
 
-  pub primary-refused : (counts : Counts) → counts ≡ countsOf s sep inks → counts .refusal ≡ 0
-      → (bad : ℕ) → bad ≡ firstBad ps → bad < 8 → BadPrimary bad ≡ predicted s sep inks ps
-  primary-refused counts e h bad f l = ap BadPrimary f ∙ sym (predicted-primary (counts-admitted s sep inks counts e h) (omega arith))
+  pub primary-refused : Admitted s → (bad : ℕ) → bad ≡ firstBad ps → bad < 8 → BadPrimary bad ≡ predicted s sep inks ps
+  primary-refused ok bad f l = ap BadPrimary f ∙ sym (predicted-primary ok (omega arith))
 
-  pub colour-answered : (counts : Counts) → counts ≡ countsOf s sep inks → counts .refusal ≡ 0
-      → (bad : ℕ) → bad ≡ firstBad ps → 8 ≤ bad → (colour : Xyz) → colour ≡ meanOf (λ j. getD (counts .of) j 0) (s .n) (primary ps) → colourOf colour ≡ predicted s sep inks ps
-  colour-answered counts e h bad f l colour mean =
-      let ok = counts-admitted s sep inks counts e h in
-      ap colourOf (mean ∙ mean-same _ (count s sep inks) (s .n) _ _ (counts-are s sep inks counts e ok) (λ j m. refl))
+  pub colour-answered : Admitted s → (bad : ℕ) → bad ≡ firstBad ps → 8 ≤ bad → (counts : List ℕ) → counts ≡ upto (count s sep inks) 8
+      → (colour : Xyz) → colour ≡ meanOf (λ j. getD counts j 0) (s .n) (primary ps) → colourOf colour ≡ predicted s sep inks ps
+  colour-answered ok bad f l counts e colour mean =
+      ap colourOf (mean ∙ mean-same _ (count s sep inks) (s .n) _ _ (λ j m. ap (λ (k : List ℕ). getD k j 0) e ∙ upto-at (count s sep inks) 8 j m) (λ j m. refl))
       ∙ sym (predicted-mean ok (omega arith))

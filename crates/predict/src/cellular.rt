@@ -31,9 +31,9 @@ pub fn predict_cellular(s: Screen, sep: Separation, inks: Inks, primaries: &[f64
     ensures answer { λ r. ⌜ r ≡ cellular s sep inks (now (primaries .entry)) ⌝ }
     ensures numbered { λ r. ⌜ numberedOf r ≡ ruled s sep inks (now (primaries .entry)) ⌝ }
 {
-    let counts = quantiser::counts(s, sep, inks);
-    if counts.refusal != 0 {
-        return Cellular::Refused(counts.refusal);
+    let refused = screen::refusal(s);
+    if refused != 0 {
+        return Cellular::Refused(refused);
     }
     if primaries.len() != VALUES {
         return Cellular::Refused(14);
@@ -42,8 +42,7 @@ pub fn predict_cellular(s: Screen, sep: Separation, inks: Inks, primaries: &[f64
     if bad < 256 {
         return Cellular::BadSet(bad);
     }
-    let of = counts.of;
-    let colour = mean_of_sets(of, s.n, primaries);
+    let colour = mean_of_sets(quantiser::counted(s, sep, inks), s.n, primaries);
     Cellular::Colour(colour.x, colour.y, colour.z)
 }
 

@@ -33,16 +33,15 @@ pub fn predict(s: Screen, sep: Separation, inks: Inks, primaries: [Xyz; 8]) -> P
     ensures answer { λ r. ⌜ r ≡ predicted s sep inks primaries ⌝ }
     ensures numbered { λ r. ⌜ numberedOf r ≡ ruled s sep inks primaries ⌝ }
 {
-    let counts = quantiser::counts(s, sep, inks);
-    if counts.refusal != 0 {
-        return Prediction::BadScreen(counts.refusal);
+    let refused = screen::refusal(s);
+    if refused != 0 {
+        return Prediction::BadScreen(refused);
     }
     let bad = first_bad(primaries);
     if bad < 8 {
         return Prediction::BadPrimary(bad);
     }
-    let of = counts.of;
-    let colour = mean(of, s.n, primaries);
+    let colour = mean(quantiser::counted(s, sep, inks), s.n, primaries);
     Prediction::Colour(colour.x, colour.y, colour.z)
 }
 

@@ -5,14 +5,19 @@ use borrow.Author.Tests.{leb-true}
 use Rattle.arith.specs.Sum.{sumBelow}
 use Rattle.arith.specs.First.{firstBelow}
 use Rattle.arith.specs.Run.{upto}
+use Rattle.arith.specs.Gcd.{gcdOf}
+use Rattle.arith.specs.Remainder.{remainderOf}
+use Rattle.screen.specs.Sizes.{shiftOf}
+use Rattle.screen.specs.Screens.{slopeAdmitted, cellsAdmitted, subscreensAdmitted, offsetAdmitted, numbersRefusal, storedTrue, refusalOf}
 use Rattle.screen.proofs.AllMarks as Screens
 use Rattle.separation.specs.Weights.{weight, scaleOf}
 use Rattle.quantiser.specs.Running.{weightUpTo, level, running, count}
 use Rattle.quantiser.specs.Subscreens.{subscreenSize, subscreenStart, subscreenOf, distanceOf, fillUpTo, colorantAt, colorantOf, phasesIn}
+use Rattle.quantiser.specs.Leaves.{thresholdAt, thresholdOf, loneThreshold}
 use Rattle.quantiser.specs.Marks.{Marks}
 
 pub marks : Marks
-unfolding sumBelow firstBelow upto weight scaleOf weightUpTo level running count subscreenSize subscreenStart subscreenOf distanceOf fillUpTo colorantAt colorantOf phasesIn
+unfolding sumBelow firstBelow upto weight scaleOf weightUpTo level running count subscreenSize subscreenStart subscreenOf distanceOf fillUpTo colorantAt colorantOf phasesIn thresholdAt thresholdOf loneThreshold gcdOf remainderOf slopeAdmitted cellsAdmitted subscreensAdmitted offsetAdmitted numbersRefusal storedTrue refusalOf shiftOf
 marks =
     record {
       screens = Screens.marks;
@@ -24,6 +29,10 @@ marks =
       split-blue = (leb-true _ _ refl, leb-true _ _ refl);
       phase-39 = refl;
       phase-91 = refl;
+      threshold-39 = refl;
+      threshold-91 = refl;
+      threshold-105 = refl;
+      threshold-refused = refl;
       kueppers-70 = refl;
       kueppers-cyan = refl;
       kueppers-white = refl;

@@ -3,8 +3,11 @@
 use Prim.Native.Nat.{ℕ, zero, suc, _+_, _-_, _*_, _/_, _≤_, _<_}
 use mathlib.Core.Path.{_≡_, refl, sym, ap, ap₂, _∙_}
 use native.Mathlib.Omega.{arith}
+use mathlib.Core.Bool.{cond}
 use mathlib.Core.List.{List, [], _∷_, _++_}
 use lib.ListN.{length, getD, drop, List·getD-append}
+use lib.Dec.{ltb}
+use borrow.Author.Tests.{lt-ltb, le-ltb}
 use Rattle.arith.specs.Sum.{sumBelow}
 use Rattle.arith.specs.Run.{upto}
 use Rattle.arith.specs.Rounding.{before}
@@ -23,7 +26,7 @@ use Rattle.separation.specs.declared.Inks.{Inks}
 use Rattle.separation.specs.Weights.{weight, weightsOf, scaleOf}
 use Rattle.quantiser.specs.declared.answer.Counts.{Counts}
 use Rattle.quantiser.specs.Running.{weightUpTo, level, running, count, countsOf}
-use Rattle.quantiser.specs.Leaves.{levelsOf, thresholdOf, thresholdsIn}
+use Rattle.quantiser.specs.Leaves.{levelsOf, thresholdOf, thresholdsIn, loneThreshold}
 use Rattle.quantiser.proofs.RunningLaws.{running-rises}
 
 -- D is at most 255 × 255 × 255
@@ -55,8 +58,8 @@ module _ (s : Screen) (sep : Separation) (inks : Inks) where
   quotient-before zero l = refl
   quotient-before (suc j) l = quotient-is j (omega arith)
 
-  pub quotient-within : running s sep inks 7 ≡ s .n → s .n ≤ 4096 → (j : ℕ) → j < 8 → getD (levelsOf (s .n) sep inks) j 0 / (2 * scaleOf sep) ≤ 4096
-  quotient-within ends h j l = omega (arith, quotient-is j l, rises-to (running s sep inks) (running-rises s sep inks) j 7 (omega arith))
+  pub quotient-within : running s sep inks 7 ≡ s .n → (j : ℕ) → j < 8 → getD (levelsOf (s .n) sep inks) j 0 / (2 * scaleOf sep) ≤ s .n
+  quotient-within ends j l = omega (arith, quotient-is j l, rises-to (running s sep inks) (running-rises s sep inks) j 7 (omega arith))
 
   pub quotient-rises : (j : ℕ) → j < 8
       → before (λ i. getD (levelsOf (s .n) sep inks) i 0 / (2 * scaleOf sep)) j ≤ getD (levelsOf (s .n) sep inks) j 0 / (2 * scaleOf sep)
@@ -87,6 +90,19 @@ module _ (s : Screen) (table : List ℕ) where
   pub thresholds-whole : bufferRefusal s (length table) ≡ 0 → upto (thresholdOf s) (s .n) ++ drop (s .n) table ≡ thresholdsIn s table
   unfolding thresholdsIn
   thresholds-whole e = sym (written-whole (bufferRefusal s (length table)) (upto (thresholdOf s) (s .n)) table (s .n) e (upto-length (thresholdOf s) (s .n)))
+
+module _ (s : Screen) (p : ℕ) where
+  pub lone-none : (refusalOf s ≡ 0 → ⊥) → 0 ≡ loneThreshold s p
+  unfolding loneThreshold
+  lone-none h = sym (answered-none (refusalOf s) (cond (ltb p (s .n)) (thresholdOf s p) 0) h)
+
+  pub lone-beyond : refusalOf s ≡ 0 → s .n ≤ p → 0 ≡ loneThreshold s p
+  unfolding loneThreshold
+  lone-beyond e h = sym (answered-whole (refusalOf s) (cond (ltb p (s .n)) (thresholdOf s p) 0) e ∙ rw (le-ltb p (s .n) h))
+
+  pub lone-whole : refusalOf s ≡ 0 → p < s .n → thresholdOf s p ≡ loneThreshold s p
+  unfolding loneThreshold
+  lone-whole e l = sym (answered-whole (refusalOf s) (cond (ltb p (s .n)) (thresholdOf s p) 0) e ∙ rw (lt-ltb p (s .n) l))
 
 pub thresholds-listed : (s : Screen) → Admitted s → (table : List ℕ) → s .n ≤ length table
     → (length (thresholdsIn s table) ≡ length table) × ((p : ℕ) → p < s .n → getD (thresholdsIn s table) p 0 ≡ thresholdOf s p)

@@ -1,10 +1,11 @@
 -- The laws of specs/Laws.antt, proved.
 -- Assumes nothing.
 use native.Mathlib.Omega.{arith}
+use mathlib.Core.Path.{sym}
 use Rattle.arith.proofs.SumLaws.{sum-term}
 use Rattle.separation.proofs.Published.{weights-add-up, scale-odd}
 use Rattle.quantiser.specs.Running.{count}
-use Rattle.quantiser.specs.Laws.{RunningRises, RunningEnds, CountsAddUp, CountWithin, CountShare, HalvesNever, CountsAnswered, ScaleLimit, SubscreensAddUp, SubscreenPlaces, PhasePlace, ColorantBelow, PhasesInSubscreen, SubscreenShare, PhasesInAll, ThresholdLaw, ThresholdWithin, ThresholdOnce, ThresholdListed, RankBelow, RankNone, ColorantRank}
+use Rattle.quantiser.specs.Laws.{RunningRises, RunningEnds, CountsAddUp, CountWithin, CountShare, HalvesNever, CountsAnswered, ScaleLimit, SubscreensAddUp, SubscreenPlaces, PhasePlace, ColorantBelow, PhasesInSubscreen, SubscreenShare, PhasesInAll, ThresholdLaw, ThresholdWithin, ThresholdOnce, ThresholdListed, ThresholdAnswered, RankBelow, RankNone, ColorantRank}
 use Rattle.quantiser.proofs.LevelLaws as LevelLaws
 use Rattle.quantiser.proofs.RunningLaws as RunningLaws
 use Rattle.quantiser.proofs.SubscreenLaws as SubscreenLaws
@@ -76,6 +77,9 @@ threshold-once = ThresholdLaws.threshold-once
 
 pub threshold-listed : ThresholdListed
 threshold-listed = LevelLaws.thresholds-listed
+
+pub threshold-answered : ThresholdAnswered
+threshold-answered s ok p l = sym (LevelLaws.lone-whole s p ok l)
 
 pub rank-below : RankBelow
 rank-below = ThresholdLaws.rank-below

@@ -1,9 +1,11 @@
--- The loop of `rank_phases`, over plain numbers and lists: the thresholds of the first k subscreens are written.
+-- The loops over subscreens, over plain numbers and lists: that of `rank_phases`, which has written the thresholds of the first k, and that
+-- of `threshold_of`, which passes the k that end before a phase.
 -- Assumes nothing.
-use Prim.Native.Nat.{ℕ, _+_, _-_, _*_, _/_, _≤_, _<_}
+use Prim.Native.Nat.{ℕ, suc, _+_, _-_, _*_, _/_, _≤_, _<_}
 use mathlib.Core.Path.{_≡_, refl, sym, ap, ap₂, _∙_}
 use mathlib.Core.List.{List, _++_}
-use native.Mathlib.Nat.{div-mul-le-self}
+use mathlib.Core.Logic.{_⊎_, inl, inr}
+use native.Mathlib.Nat.{div-mul-le-self, eq-or-lt-of-le, not-le-of-lt, add-zero, zero-add}
 use native.Mathlib.Numerals.{add-one}
 use native.Mathlib.Omega.{arith}
 use lib.ListN.{length, take, drop}
@@ -14,6 +16,7 @@ use Rattle.arith.proofs.RunLaws.{upto-same, part-length, Filling, filling-start
 use Rattle.arith.proofs.StepLaws.{rises-to}
 use Rattle.screen.specs.declared.Screen.{Screen}
 use Rattle.screen.specs.Screens.{Admitted}
+use Rattle.screen.proofs.Published.{admitted-words}
 use Rattle.quantiser.specs.Subscreens.{subscreenSize, subscreenStart}
 use Rattle.quantiser.specs.Leaves.{thresholdAt, thresholdOf}
 use Rattle.quantiser.proofs.SubscreenLaws.{start-step, start-rises, sizes-add-up, place-of}
@@ -68,3 +71,43 @@ module _ {s : Screen} {table₀ table : List ℕ} {k start : ℕ} (ok : Admitted
   rank-end h =
       let last : k ≡ s .k = omega (arith, r .most) in
       r .cells .cells ∙ ap (λ (i : ℕ). upto (thresholdOf s) i ++ drop i table₀) (r .begins ∙ ap (subscreenStart s) last ∙ sizes-add-up s ok)
+
+-- ---- passing subscreens
+
+-- the subscreens before k have so many phases, at most p; k ends at the next
+pub record PassedAt (s : Screen) (p k passed next : ℕ) : Type 0 where
+  pub low : k < s .k
+  pub begins : passed ≡ subscreenStart s k
+  pub ends : next ≡ subscreenStart s (suc k)
+  pub reached : passed ≤ p
+
+module _ {s : Screen} (ok : Admitted s) {p : ℕ} where
+  pub passed-start : PassedAt s p 0 0 (s .n / s .k)
+  unfolding subscreenStart subscreenSize sumBelow
+  passed-start = record { low = admitted-words s .0 ok .subscreens-above; begins = refl; ends = rw (add-zero, zero-add); reached = omega arith }
+
+  module _ {k passed next : ℕ} (l : p < s .n) (r : PassedAt s p k passed next) where
+    -- the subscreen ends within the N phases, and before the phase only if another follows
+    pub ends-within : next ≤ s .n
+    ends-within = omega (arith, r .ends, rises-to (subscreenStart s) (start-rises s ok) (suc k) (s .k) (r .low), sizes-add-up s ok)
+
+    pub passed-next : next ≤ p → PassedAt s p (k + 1) next (next + (s .n + (k + 1)) / s .k)
+    unfolding subscreenSize
+    passed-next h =
+        record {
+          low = go (eq-or-lt-of-le (r .low));
+          begins = rw add-one (r .ends);
+          ends = rw (add-one, start-step s ok (suc k)) (ap (λ (z : ℕ). z + (s .n + suc k) / s .k) (r .ends));
+          reached = h;
+        }
+      where
+        go : (suc k ≡ s .k) ⊎ (suc k < s .k) → k + 1 < s .k
+        go (inl e) = absurd (not-le-of-lt l (omega (arith, r .ends, ap (subscreenStart s) e, sizes-add-up s ok)))
+        go (inr h) = omega arith
+
+    pub passed-end : p < next → (p - passed + 1) * s .k - k ≡ thresholdOf s p
+    unfolding thresholdOf thresholdAt
+    passed-end h =
+        let place = place-of s ok k (p - passed) (r .low) (omega (arith, r .begins, r .ends, r .reached, start-step s ok k)) in
+        let here : subscreenStart s k + (p - passed) ≡ p = omega (arith, r .begins, r .reached) in
+        sym (ap₂ (λ (i d : ℕ). thresholdAt s i d) (place .0) (place .1)) ∙ ap (thresholdOf s) here

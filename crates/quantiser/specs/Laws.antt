@@ -17,7 +17,7 @@ use Rattle.separation.specs.Weights.{weight, scaleOf}
 use Rattle.separation.specs.Laws.{InkValues}
 use Rattle.quantiser.specs.Running.{weightUpTo, running, count, countsOf}
 use Rattle.quantiser.specs.Subscreens.{subscreenSize, subscreenStart, subscreenOf, distanceOf, fillUpTo, colorantAt, colorantOf, phasesIn, phasesOf}
-use Rattle.quantiser.specs.Leaves.{thresholdAt, thresholdOf, thresholdsIn, levelsOf, rank}
+use Rattle.quantiser.specs.Leaves.{thresholdAt, thresholdOf, thresholdsIn, loneThreshold, levelsOf, rank}
 
 -- a statement of every admitted screen, separation and ink values
 abbrev pub Always : (Screen → Separation → Inks → Type 0) → Type 0
@@ -125,6 +125,10 @@ abbrev pub ThresholdListed : Type 0
 ThresholdListed =
     (s : Screen) → Admitted s → (table : List ℕ) → s .n ≤ length table
     → (length (thresholdsIn s table) ≡ length table) × ((p : ℕ) → p < s .n → getD (thresholdsIn s table) p 0 ≡ thresholdOf s p)
+
+-- what `threshold` answers for a phase that the screen has
+abbrev pub ThresholdAnswered : Type 0
+ThresholdAnswered = (s : Screen) → Admitted s → (p : ℕ) → p < s .n → loneThreshold s p ≡ thresholdOf s p
 
 -- a rank is a colorant's number
 abbrev pub RankBelow : Type 0

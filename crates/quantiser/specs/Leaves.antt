@@ -2,13 +2,15 @@
 -- a colour. That the two give the colorant of a phase is `ColorantRank` (Laws.antt).
 -- Assumes nothing: these are definitions.
 use Prim.Native.Nat.{ℕ, _+_, _-_, _*_}
+use mathlib.Core.Bool.{cond}
 use mathlib.Core.List.{List}
 use lib.ListN.{length, getD}
 use lib.Dec.{ltb}
 use Rattle.arith.specs.Sum.{sumBelow, indicator}
 use Rattle.arith.specs.Run.{upto}
-use Rattle.arith.specs.Refusal.{written}
+use Rattle.arith.specs.Refusal.{answered, written}
 use Rattle.screen.specs.declared.Screen.{Screen}
+use Rattle.screen.specs.Screens.{refusalOf}
 use Rattle.screen.specs.Brick.{bufferRefusal}
 use Rattle.separation.specs.declared.Separation.{Separation}
 use Rattle.separation.specs.declared.Inks.{Inks}
@@ -26,6 +28,10 @@ thresholdOf s p = thresholdAt s (subscreenOf s p) (distanceOf s p)
 -- what `thresholds` leaves in a table: those of the phases 0 to N − 1 in the order of their numbers, and what stood after them
 unfoldable pub thresholdsIn : Screen → List ℕ → List ℕ
 thresholdsIn s table = written (bufferRefusal s (length table)) (upto (thresholdOf s) (s .n)) table
+
+-- what `threshold` answers for a lone phase: 0 where the screen is not admitted or the phase not below N
+unfoldable pub loneThreshold : Screen → ℕ → ℕ
+loneThreshold s p = answered (refusalOf s) (cond (ltb p (s .n)) (thresholdOf s p) 0)
 
 -- what `levels` answers for n cells
 unfoldable pub levelsOf : ℕ → Separation → Inks → List ℕ

@@ -1,4 +1,5 @@
-// What a renderer needs for a cell, without a division: thresholds once a call, levels once a colour.
+// What a cell's colorant needs: levels, once a colour, and a threshold. A renderer has the thresholds of all
+// phases, once a call, and so divides for no cell; a lone phase has its own.
 ghost use mathlib.Core.Path.{_≡_};
 ghost use mathlib.Core.List.{_++_};
 ghost use Prim.Native.Nat.{ℕ, suc, _+_, _-_, _*_, _≤_, _<_};
@@ -7,7 +8,7 @@ ghost use Rattle.arith.specs.Sum.{sumBelow};
 ghost use Rattle.arith.specs.Run.{upto};
 ghost use Rattle.screen.specs.Screens.{Admitted};
 ghost use Rattle.screen.specs.Brick.{bufferRefusal};
-ghost use Rattle.quantiser.specs.Leaves.{levelsOf, thresholdOf, thresholdsIn, rank};
+ghost use Rattle.quantiser.specs.Leaves.{levelsOf, thresholdOf, thresholdsIn, loneThreshold, rank};
 use screen::Screen;
 use separation::Inks;
 use separation::Separation;
@@ -50,6 +51,37 @@ pub fn thresholds(s: Screen, table: &mut [u16]) -> u32
     }
     rank_phases(s, table);
     0
+}
+
+// The threshold of a lone phase; 0, which is above no level, where the screen is not admitted or has no such
+// phase.
+pub fn threshold(s: Screen, phase: u32) -> u32
+    ensures { λ r. ⌜ r ≡ loneThreshold s phase ⌝ }
+{
+    if screen::refusal(s) != 0 {
+        return 0;
+    }
+    if s.n <= phase {
+        return 0;
+    }
+    threshold_of(s, phase)
+}
+
+// The threshold of a phase. Subscreens are passed until one ends after it; `passed` is how many phases they
+// have.
+fn threshold_of(s: Screen, phase: u32) -> u32
+    requires { ⌜ Admitted s × (phase < s .n) ⌝ }
+    ensures { λ r. ⌜ r ≡ thresholdOf s phase ⌝ }
+{
+    let mut subscreen = 0;
+    let mut passed = 0;
+    let mut next = s.n / s.k;
+    while next <= phase {
+        passed = next;
+        subscreen += 1;
+        next = passed + (s.n + subscreen) / s.k;
+    }
+    (phase - passed + 1) * s.k - subscreen
 }
 
 // Writes the thresholds of the phases, one subscreen after the other.

@@ -5,5 +5,7 @@ mod counting;
 
 pub use cells::colorant_of;
 pub use cells::levels;
+pub use cells::threshold;
 pub use cells::thresholds;
+pub use counting::counted;
 pub use counting::counts;

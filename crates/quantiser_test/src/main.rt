@@ -1,6 +1,7 @@
 // Prints what the calls of `separation` and `quantiser` answer: the worked examples of the rules, both
-// separations at the corners, each limit of the screen, stored numbers that are wrong, tables of
-// thresholds, the colorants of phases, and mixed cases. The file stdout holds what this must print.
+// separations at the corners, each limit of the screen, stored numbers that are wrong, counts of screens
+// that are not tested, tables of thresholds and thresholds by themselves, the colorants of phases, and mixed
+// cases. The file stdout holds what this must print.
 ghost use Prim.Native.Nat.{_<_};
 use screen::Screen;
 use separation::Inks;
@@ -22,10 +23,20 @@ fn main() {
     stored_counts();
     io::write_all(
         1,
+        b"# a b n k g, separation, c m y: counts, whatever the screen\n",
+    );
+    untested();
+    io::write_all(
+        1,
         b"# a b n k g, places: refusal; the table, every place 65535 before\n",
     );
     tables();
     stored_tables();
+    io::write_all(
+        1,
+        b"# a b n k g: the thresholds of phases 0 to 21 and 4294967295, one by one\n",
+    );
+    lone_thresholds();
     io::write_all(
         1,
         b"# a b n k g, separation, c m y: the colorant of each phase\n",
@@ -148,6 +159,25 @@ fn show_both_storing(s: Screen) {
     show_both(s, inks_of(51, 102, 204));
 }
 
+// An admitted screen, one that 1 refuses, and those of no cells, of the most cells and of wrong numbers.
+fn untested() {
+    show_counted(screen_of(4, 7, 105, 2, 0));
+    show_counted(screen_of(4, 8, 20, 3, 0));
+    show_counted(screen_of(4, 7, 0, 2, 0));
+    show_counted(screen_of(4, 7, 4294967295, 2, 0));
+    show_counted(record_of(4, 7, 105, 2, 0, 105, 1, 133));
+}
+
+fn show_counted(s: Screen) {
+    show_counted_by(s, Separation::Demichel, inks_of(51, 102, 204));
+    show_counted_by(s, Separation::Kueppers, inks_of(51, 102, 204));
+}
+
+fn show_counted_by(s: Screen, sep: Separation, inks: Inks) {
+    show_case(s, sep, inks);
+    show_eight(quantiser::counted(s, sep, inks));
+}
+
 // Tables of n - 1, n and n + 1 places, of none, and of n places for refused screens.
 fn tables() {
     let s = screen_of(4, 7, 20, 3, 0);
@@ -179,6 +209,33 @@ fn stored_tables() {
 fn show_table_storing(s: Screen, places: usize) {
     show_stored(s);
     show_table(s, places);
+}
+
+// k of 3, 1 and 16, k equal to n, one cell; then screens that 1 and 15 refuse.
+fn lone_thresholds() {
+    show_lone(screen_of(4, 7, 20, 3, 0));
+    show_lone(screen_of(4, 7, 20, 1, 19));
+    show_lone(screen_of(4, 7, 20, 16, 0));
+    show_lone(screen_of(4, 7, 16, 16, 0));
+    show_lone(screen_of(1, 2, 1, 1, 0));
+    show_lone(screen_of(4, 8, 20, 3, 0));
+    let false_shift = record_of(4, 7, 20, 3, 0, 5, 4, 7);
+    show_stored(false_shift);
+    show_lone(false_shift);
+}
+
+fn show_lone(s: Screen) {
+    show_screen(s);
+    io::write_all(1, b":");
+    show_thresholds(s);
+    spaced(quantiser::threshold(s, 4294967295));
+    io::write_all(1, b"\n");
+}
+
+fn show_thresholds(s: Screen) {
+    for phase in 0..22 {
+        spaced(quantiser::threshold(s, phase));
+    }
 }
 
 // Where each colorant stands: the screens of rules 12.1 to 12.6, k equal to n, and k of 16.
@@ -326,9 +383,13 @@ fn show_counts(s: Screen, sep: Separation, inks: Inks) {
     show_case(s, sep, inks);
     let counts = quantiser::counts(s, sep, inks);
     number(counts.refusal);
-    io::write_all(1, b";");
+    io::write_all(1, b"; ");
     let of = counts.of;
-    spaced(of[0]);
+    show_eight(of);
+}
+
+fn show_eight(of: [u32; 8]) {
+    number(of[0]);
     spaced(of[1]);
     spaced(of[2]);
     spaced(of[3]);

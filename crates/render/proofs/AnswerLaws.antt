@@ -18,19 +18,23 @@ use Rattle.arith.proofs.TallyLaws.{tallies-most}
 use Rattle.arith.proofs.RefusalLaws.{or-none, answered-none, answered-whole, written-none, written-all, written-refused}
 use Rattle.arith.proofs.RunLaws.{upto-length, upto-at, upto-same}
 use Rattle.screen.specs.declared.Screen.{Screen}
+use Rattle.screen.specs.declared.places.Place.{Place}
 use Rattle.screen.specs.Screens.{Admitted}
-use Rattle.screen.specs.Phase.{phase, placeRefusal}
+use Rattle.screen.specs.Phase.{phase, placeRefusal, placeOf}
+use Rattle.screen.proofs.Published.{admitted-words, phase-below, place-answered}
 use Rattle.separation.specs.declared.Separation.{Separation}
 use Rattle.separation.specs.declared.Inks.{Inks}
+use Rattle.separation.specs.Weights.{scaleOf}
+use Rattle.separation.specs.Laws.{InkValues}
 use Rattle.quantiser.specs.Subscreens.{colorantOf}
-use Rattle.quantiser.specs.Leaves.{thresholdsIn}
-use Rattle.quantiser.proofs.Published.{threshold-listed}
+use Rattle.quantiser.specs.Leaves.{thresholdOf, thresholdsIn, loneThreshold, levelsOf, rank}
+use Rattle.quantiser.proofs.Published.{threshold-within, threshold-listed, threshold-answered, colorant-rank}
 use Rattle.render.specs.declared.Window.{Window}
 use Rattle.render.specs.declared.Rendering.{Rendering}
 use Rattle.render.specs.declared.Cell.{Cell}
 use Rattle.render.specs.Windows.{area, inksAt, cellOf, windowCell, windowCells, talliesOf}
 use Rattle.render.specs.Answers.{windowRefusal, brickRefusal, answerOf, rendering, rendered, brickRendering, loneCell}
-use Rattle.render.specs.Laws.{TalliesOnSheet}
+use Rattle.render.specs.Laws.{TalliesOnSheet, loneWindow, loneInput, LoneCellRendered}
 use Rattle.render.specs.Rows.{TableOf, cellsBy, RowsLent}
 use Rattle.render.proofs.RefusalLaws.{area-limit, window-kept, places-enough}
 
@@ -136,27 +140,52 @@ table-of s memory table ok room e =
 
 -- ---- a lone place
 
+module _ (s : Screen) (x y : ℕ) {place : Place} (e : place ≡ placeOf s x y) where
+  lone-refusal : place .refusal ≡ placeRefusal s x y
+  lone-refusal = ap (λ (p : Place). p .refusal) e ∙ place-answered s x y .0
+
+  pub lone-refused : (sep : Separation) (inks : Inks) → (place .refusal ≡ 0 → ⊥) → _≡_ {A = Cell} (record { refusal = place .refusal; colorant = 0 }) (loneCell s sep x y inks)
+  unfolding loneCell
+  lone-refused sep inks h = rw (lone-refusal, answered-none (placeRefusal s x y) (cellOf s sep x y inks) (λ z. h (lone-refusal ∙ z)))
+
+  module _ (h : place .refusal ≡ 0) {t : ℕ} (f : t ≡ loneThreshold s (place .phase)) where
+    none : placeRefusal s x y ≡ 0
+    none = sym lone-refusal ∙ h
+
+    ok : Admitted s
+    ok = place-answered s x y .1 none .0
+
+    lone-threshold : t ≡ thresholdOf s (phase s x y)
+    lone-threshold =
+        f
+        ∙ ap (λ (p : Place). loneThreshold s (p .phase)) e
+        ∙ ap (loneThreshold s) (place-answered s x y .1 none .1)
+        ∙ threshold-answered s ok (phase s x y) (phase-below s ok x y)
+
+    pub lone-few : t ≤ 4096
+    lone-few = omega (arith, lone-threshold, threshold-within s ok (phase s x y) (phase-below s ok x y) .1, admitted-words s .0 ok .cells-limit)
+
+    -- its rank among the levels is the colorant
+    pub lone-coloured : (sep : Separation) (inks : Inks) → InkValues inks → {colorant : ℕ} → colorant ≡ rank (levelsOf (s .n) sep inks) (2 * scaleOf sep * t)
+        → _≡_ {A = Cell} (record { refusal = 0; colorant = colorant }) (loneCell s sep x y inks)
+    unfolding loneCell cellOf
+    lone-coloured sep inks v q =
+        rw (q, lone-threshold, colorant-rank s ok sep inks v (phase s x y) (phase-below s ok x y), answered-whole (placeRefusal s x y) (colorantOf s sep inks (phase s x y)) none, none)
+
+-- and the window there has that cell
 module _ (s : Screen) (sep : Separation) (x y : ℕ) (inks : Inks) where
-  -- the window of 1 by 1 cells at (x, y), and the input for it
-  abbrev pub lone : Window
-  lone = record { x = x; y = y; columns = 1; rows = 1 }
-
-  abbrev pub triple : List ℕ
-  triple = inks .c ∷ inks .m ∷ inks .y ∷ []
-
-  lone-refusal : windowRefusal s lone 3 1 ≡ placeRefusal s x y
+  window-refusal : windowRefusal s (loneWindow x y) 3 1 ≡ placeRefusal s x y
   unfolding windowRefusal placeRefusal
-  lone-refusal = refl
+  window-refusal = refl
 
-  lone-byte : (r : ℕ) → Dec (r ≡ 0) → getD (written r (windowCells s sep lone triple) (0 ∷ [])) 0 0 ≡ answered r (cellOf s sep x y inks)
+  window-byte : (r : ℕ) → Dec (r ≡ 0)
+      → getD (written r (windowCells s sep (loneWindow x y) (loneInput inks)) (0 ∷ [])) 0 0 ≡ answered r (cellOf s sep x y inks)
   unfolding windowCells windowCell upto
-  lone-byte r (yes z) =
-      rw (written-all r (windowCells s sep lone triple) (0 ∷ []) z refl, answered-whole r (cellOf s sep x y inks) z)
+  window-byte r (yes z) =
+      rw (written-all r (windowCells s sep (loneWindow x y) (loneInput inks)) (0 ∷ []) z refl, answered-whole r (cellOf s sep x y inks) z)
       (ap₂ (λ (i j : ℕ). cellOf s sep i j inks) (add-zero x) (add-zero y))
-  lone-byte r (no h) = rw (written-none r (windowCells s sep lone triple) (0 ∷ []) h, answered-none r (cellOf s sep x y inks) h)
+  window-byte r (no h) = rw (written-none r (windowCells s sep (loneWindow x y) (loneInput inks)) (0 ∷ []) h, answered-none r (cellOf s sep x y inks) h)
 
-  -- the refusal and the byte of that window
-  pub lone-cell : {out : List ℕ} {r : Rendering} → r ≡ rendering s sep lone triple (0 ∷ []) → out ≡ rendered s sep lone triple (0 ∷ [])
-      → _≡_ {A = Cell} (record { refusal = r .refusal; colorant = getD out 0 0 }) (loneCell s sep x y inks)
-  unfolding rendering rendered answerOf loneCell
-  lone-cell e q = rw (e, q, lone-byte (windowRefusal s lone 3 1) (ℕ-discrete _ 0), lone-refusal) refl
+pub lone-cell-rendered : LoneCellRendered
+unfolding rendering rendered answerOf loneCell
+lone-cell-rendered s sep x y inks = rw (window-byte s sep x y inks (windowRefusal s (loneWindow x y) 3 1) (ℕ-discrete _ 0), window-refusal s sep x y inks) refl

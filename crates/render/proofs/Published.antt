@@ -1,6 +1,6 @@
 -- The laws of specs/Laws.antt, and that of specs/Finished.antt which is about both renderers, proved.
 -- Assumes nothing.
-use Rattle.render.specs.Laws.{AnswerRefused, TalliesOnSheet}
+use Rattle.render.specs.Laws.{AnswerRefused, TalliesOnSheet, LoneCellRendered}
 use Rattle.render.specs.Finished.{Agreement}
 use Rattle.render.proofs.AnswerLaws as AnswerLaws
 use Rattle.render.proofs.FinishedLaws as FinishedLaws
@@ -10,6 +10,9 @@ answer-refused = AnswerLaws.answer-refused
 
 pub tallies-on-sheet : TalliesOnSheet
 tallies-on-sheet = AnswerLaws.tallies-on-sheet
+
+pub lone-cell-rendered : LoneCellRendered
+lone-cell-rendered = AnswerLaws.lone-cell-rendered
 
 pub agreement : Agreement
 agreement = FinishedLaws.agreement

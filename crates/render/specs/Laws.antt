@@ -3,15 +3,16 @@
 use Prim.Native.Nat.{ℕ, _*_, _≤_}
 use mathlib.Core.Path.{_≡_}
 use mathlib.Core.Logic.{_⊎_}
-use mathlib.Core.List.{List}
+use mathlib.Core.List.{List, [], _∷_}
 use lib.ListN.{length, getD}
 use Rattle.arith.specs.Run.{zeros}
 use Rattle.arith.specs.Sum.{sumBelow}
 use Rattle.screen.specs.declared.Screen.{Screen}
 use Rattle.separation.specs.declared.Separation.{Separation}
+use Rattle.separation.specs.declared.Inks.{Inks}
 use Rattle.render.specs.declared.Window.{Window}
 use Rattle.render.specs.declared.Rendering.{Rendering}
-use Rattle.render.specs.Answers.{answerOf, rendering, brickRendering}
+use Rattle.render.specs.Answers.{answerOf, rendering, rendered, brickRendering, loneCell}
 
 -- rule 11.3: a refused renderer answers its refusal and eight zeros
 abbrev pub AnswerRefused : Type 0
@@ -26,3 +27,19 @@ FromRenderer r =
 -- rules 7.1 and 7.4: its tallies are eight, and together no more than the sheet has cells
 abbrev pub TalliesOnSheet : Type 0
 TalliesOnSheet = (r : Rendering) → FromRenderer r → (length (r .tallies) ≡ 8) × (sumBelow 8 (λ j. getD (r .tallies) j 0) ≤ 65536 * 65536)
+
+-- rule 7.8: a lone cell is what `render` answers and writes for the window of 1 by 1 at its place, with its ink values as input
+abbrev pub loneWindow : ℕ → ℕ → Window
+loneWindow x y = record { x = x; y = y; columns = 1; rows = 1 }
+
+abbrev pub loneInput : Inks → List ℕ
+loneInput inks = inks .c ∷ inks .m ∷ inks .y ∷ []
+
+abbrev pub LoneCellRendered : Type 0
+LoneCellRendered =
+    (s : Screen) (sep : Separation) (x y : ℕ) (inks : Inks)
+    → loneCell s sep x y inks
+    ≡ record {
+      refusal = rendering s sep (loneWindow x y) (loneInput inks) (0 ∷ []) .refusal;
+      colorant = getD (rendered s sep (loneWindow x y) (loneInput inks) (0 ∷ [])) 0 0;
+    }

@@ -70,16 +70,10 @@ fn levels_after(last: Paint, n: u32, sep: Separation, c: u8, m: u8, y: u8) -> [u
     requires { ⌜ Own n sep last ⌝ }
     ensures { λ r. ⌜ r ≡ levelsOf n sep (inksOf c m y) ⌝ }
 {
-    if last.c != c {
-        return quantiser::levels(n, sep, Inks { c: c, m: m, y: y });
+    if last.c == c && last.m == m && last.y == y {
+        return last.levels;
     }
-    if last.m != m {
-        return quantiser::levels(n, sep, Inks { c: c, m: m, y: y });
-    }
-    if last.y != y {
-        return quantiser::levels(n, sep, Inks { c: c, m: m, y: y });
-    }
-    last.levels
+    quantiser::levels(n, sep, Inks { c: c, m: m, y: y })
 }
 
 // p + by, with n taken off where it is reached.

@@ -91,30 +91,24 @@ pub fn render_brick(
     }
 }
 
-// The colorant of a lone place, rendered as a window of one cell.
+// The colorant of a lone place, without a table: its phase alone is worked out, and its threshold.
 pub fn cell_at(s: Screen, sep: Separation, x: u32, y: u32, inks: Inks) -> Cell
     ensures { λ r. ⌜ r ≡ loneCell s sep x y inks ⌝ }
 {
-    let input = [inks.c, inks.m, inks.y];
-    let mut out = [0u8; 1];
-    let w = Window {
-        x: x,
-        y: y,
-        columns: 1,
-        rows: 1,
-    };
-    let r = render(s, sep, w, &input, &mut out);
-    Cell {
-        refusal: r.refusal,
-        colorant: widened(out[0]),
+    let place = screen::phase_at(s, x, y);
+    if place.refusal != 0 {
+        return Cell {
+            refusal: place.refusal,
+            colorant: 0,
+        };
     }
-}
-
-// A byte as a longer number. A parameter is known to be a byte; what is read back from lent memory is not.
-fn widened(n: u8) -> u32
-    ensures { λ r. ⌜ r ≡ n ⌝ }
-{
-    n as u32
+    let threshold = quantiser::threshold(s, place.phase);
+    let bar = 2 * separation::scale(sep) * threshold as u64;
+    let colorant = quantiser::colorant_of(quantiser::levels(s.n, sep, inks), bar);
+    Cell {
+        refusal: 0,
+        colorant: colorant as u32,
+    }
 }
 
 // An answer with no cell in any colorant.

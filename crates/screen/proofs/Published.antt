@@ -14,7 +14,7 @@ use Rattle.screen.specs.Screens.{Admitted, Limits}
 use Rattle.screen.specs.Phase.{phase}
 use Rattle.screen.specs.Brick.{rows, columns, shift, brickPhases, brickPlace, filled}
 use Rattle.screen.specs.Made.{madeOf}
-use Rattle.screen.specs.Laws.{AdmittedWords, PhaseBelow, PhaseWords, PhaseOnly, StepsRight, StepRight, StepDown, PlaceOnSheet, BrickSize, PeriodRight, ShiftWords, ShiftOnly, ShiftLaw, BrickAnswered, FilledIsTrue, ReadFromBrick, BufferRefused, times, EachPhaseOnce, EachPhaseTimes, MadeWords, MadeAdmitted, ReplacedAdmitted, RefusedKeeps, OffsetKeeps, SubscreensKeep, CellsKeep, TrueThroughout}
+use Rattle.screen.specs.Laws.{AdmittedWords, PhaseBelow, PhaseWords, PhaseOnly, StepsRight, StepRight, StepDown, PlaceOnSheet, PlaceAnswered, BrickSize, PeriodRight, ShiftWords, ShiftOnly, ShiftLaw, BrickAnswered, FilledIsTrue, ReadFromBrick, BufferRefused, times, EachPhaseOnce, EachPhaseTimes, MadeWords, MadeAdmitted, ReplacedAdmitted, RefusedKeeps, OffsetKeeps, SubscreensKeep, CellsKeep, TrueThroughout}
 use Rattle.screen.proofs.Refusals as Refusals
 use Rattle.screen.proofs.PhaseLaws as PhaseLaws
 use Rattle.screen.proofs.BrickLaws as BrickLaws
@@ -48,6 +48,9 @@ step-down s e = PhaseLaws.row-back _ _ _ _ (limits e .cells-above)
 
 pub place-on-sheet : PlaceOnSheet
 place-on-sheet s e x y l h = sym (Refusals.place-whole s x y (sym (Refusals.place-on s x y e l h)))
+
+pub place-answered : PlaceAnswered
+place-answered = Refusals.place-answered
 
 -- ---- brick
 

@@ -238,6 +238,10 @@ module _ (s : Screen) (x y : ℕ) where
   unfolding placeOf
   place-whole e = rw (answered-whole (placeRefusal s x y) (phase s x y) e, e)
 
+  pub place-answered : (placeOf s x y .refusal ≡ placeRefusal s x y) × (placeRefusal s x y ≡ 0 → Admitted s × (placeOf s x y .phase ≡ phase s x y))
+  unfolding placeOf placeRefusal
+  place-answered = (refl, λ e. (or-none _ _ e .0, answered-whole (placeRefusal s x y) (phase s x y) e))
+
 module _ (s : Screen) where
   pub brick-none : (refusalOf s ≡ 0 → ⊥) → _≡_ {A = Brick} (record { refusal = refusalOf s; columns = 0; rows = 0; shift = 0 }) (brickOf s)
   unfolding brickOf

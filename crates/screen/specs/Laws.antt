@@ -8,7 +8,7 @@ use lib.Dec.{eqb}
 use Rattle.arith.specs.Sum.{sumBelow, indicator}
 use Rattle.screen.specs.declared.Screen.{Screen}
 use Rattle.screen.specs.Screens.{screenOf, refusalOf, Admitted, Limits, Stored}
-use Rattle.screen.specs.Phase.{phase, placeOf}
+use Rattle.screen.specs.Phase.{phase, placeRefusal, placeOf}
 use Rattle.screen.specs.Brick.{rows, columns, shift, brickOf, bufferRefusal, filled, TrueBrick, placeInBrick}
 use Rattle.screen.specs.Made.{noScreen, madeOf, offsetReplaced, subscreensReplaced, cellsReplaced, Replacement, replaced, afterAll}
 
@@ -44,6 +44,12 @@ StepDown = (s : Screen) → Admitted s → (x y : ℕ) → (phase s x (y + 1) + 
 -- what `phase_at` answers for a place on the sheet
 abbrev pub PlaceOnSheet : Type 0
 PlaceOnSheet = (s : Screen) → Admitted s → (x y : ℕ) → x < 65536 → y < 65536 → placeOf s x y ≡ record { refusal = 0; phase = phase s x y }
+
+-- and for any place: its refusal, and where it has none, so that the screen is admitted, its phase
+abbrev pub PlaceAnswered : Type 0
+PlaceAnswered =
+    (s : Screen) (x y : ℕ)
+    → (placeOf s x y .refusal ≡ placeRefusal s x y) × (placeRefusal s x y ≡ 0 → Admitted s × (placeOf s x y .phase ≡ phase s x y))
 
 -- ---- brick
 
