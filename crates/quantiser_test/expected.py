@@ -99,7 +99,9 @@ for screen in [
 print("# a b n k g, separation, c m y: counts, whatever the screen")
 for screen in [(4, 7, 105, 2, 0), (4, 8, 20, 3, 0), (4, 7, 0, 2, 0), (4, 7, TOP, 2, 0)]:
     show_counted(screen_of(*screen))
-show_counted(Screen(4, 7, 105, 2, 0, 105, 1, 133))
+false_shift = 4, 7, 105, 2, 0, 105, 1, 133
+print(stored(false_shift))
+show_counted(Screen(*false_shift))
 
 print("# a b n k g, places: refusal; the table, every place 65535 before")
 for screen, places in [

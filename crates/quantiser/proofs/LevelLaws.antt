@@ -1,4 +1,4 @@
--- The levels as `levels` works them out, their quotients as `counts` takes them, and what the calls answer and write.
+-- The levels as `levels` works them out, their quotients as `counted` takes them, and what the calls answer and write.
 -- Assumes nothing.
 use Prim.Native.Nat.{ℕ, zero, suc, _+_, _-_, _*_, _/_, _≤_, _<_}
 use mathlib.Core.Path.{_≡_, refl, sym, ap, ap₂, _∙_}

@@ -1,5 +1,5 @@
--- Rule 6.5, what a renderer needs for one cell, without a division: thresholds of phases, once a call, and levels of running sums, once
--- a colour. That the two give the colorant of a phase is `ColorantRank` (Laws.antt).
+-- Rule 6.5, what a cell's colorant needs: the threshold of its phase, which a renderer has for all phases once a call, and levels of
+-- running sums, once a colour. That the two give the colorant of a phase, without a division, is `ColorantRank` (Laws.antt).
 -- Assumes nothing: these are definitions.
 use Prim.Native.Nat.{ℕ, _+_, _-_, _*_}
 use mathlib.Core.Bool.{cond}

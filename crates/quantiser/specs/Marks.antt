@@ -30,10 +30,10 @@ pub record Marks : Type 0 where
   -- rule 12.4: the colorants of two phases
   pub phase-39 : colorantOf listed Demichel half 39 ≡ 7
   pub phase-91 : colorantOf listed Demichel half 91 ≡ 3
-  -- rule 6.5: the thresholds of these phases, each the 40th of its subscreen, and of one that there is not
+  -- rule 6.5: the thresholds of these phases, each the 40th of its subscreen, of one that there is not, and of a screen that is refused
   pub threshold-39 : loneThreshold listed 39 ≡ 80
   pub threshold-91 : loneThreshold listed 91 ≡ 79
-  pub threshold-105 : loneThreshold listed 105 ≡ 0
+  pub threshold-106 : loneThreshold listed 106 ≡ 0
   pub threshold-refused : loneThreshold (screenOf 2 4 105 2 0) 39 ≡ 0
   -- rule 12.5
   pub kueppers-70 : upto (count tworowed Kueppers rising) 8 ≡ 0 ∷ 0 ∷ 28 ∷ 0 ∷ 0 ∷ 14 ∷ 14 ∷ 14 ∷ []

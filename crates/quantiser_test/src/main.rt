@@ -165,7 +165,9 @@ fn untested() {
     show_counted(screen_of(4, 8, 20, 3, 0));
     show_counted(screen_of(4, 7, 0, 2, 0));
     show_counted(screen_of(4, 7, 4294967295, 2, 0));
-    show_counted(record_of(4, 7, 105, 2, 0, 105, 1, 133));
+    let false_shift = record_of(4, 7, 105, 2, 0, 105, 1, 133);
+    show_stored(false_shift);
+    show_counted(false_shift);
 }
 
 fn show_counted(s: Screen) {

@@ -28,13 +28,14 @@ FromRenderer r =
 abbrev pub TalliesOnSheet : Type 0
 TalliesOnSheet = (r : Rendering) → FromRenderer r → (length (r .tallies) ≡ 8) × (sumBelow 8 (λ j. getD (r .tallies) j 0) ≤ 65536 * 65536)
 
--- rule 7.8: a lone cell is what `render` answers and writes for the window of 1 by 1 at its place, with its ink values as input
+-- the window of 1 by 1 at a place, and ink values as its input
 abbrev pub loneWindow : ℕ → ℕ → Window
 loneWindow x y = record { x = x; y = y; columns = 1; rows = 1 }
 
 abbrev pub loneInput : Inks → List ℕ
 loneInput inks = inks .c ∷ inks .m ∷ inks .y ∷ []
 
+-- rule 7.8: a lone cell is what `render` answers and writes for that window
 abbrev pub LoneCellRendered : Type 0
 LoneCellRendered =
     (s : Screen) (sep : Separation) (x y : ℕ) (inks : Inks)

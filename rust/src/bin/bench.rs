@@ -174,7 +174,7 @@ fn measure_call<L, P>(call: &str, library: impl Fn(u32) -> L, plain: impl Fn(u32
     print_call(&format!("{call}, n = {LARGEST_SCREEN}"), SCREEN_CALLS, library, plain);
 }
 
-/// Measures what the largest screen is asked for a place; a lone cell is a window that meets one phase.
+/// Measures what the largest screen is asked for a place: a lone cell's colorant, and a phase.
 fn measure_places() {
     let (screen, plain_screen) = screens(LARGEST_SCREEN);
     let place = |number: u32| (number % SIDE, number / 7);

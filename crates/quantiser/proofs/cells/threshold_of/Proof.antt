@@ -3,7 +3,6 @@
 use Prim.Native.Nat.{_+_, _-_, _≤_}
 use native.Mathlib.Nat.{mul-le-mul}
 use native.Mathlib.Omega.{arith}
-use borrow.Author.Needs.{needs}
 use Rattle.screen.proofs.Published.{admitted-words}
 use Rattle.quantiser.proofs.ThresholdLoop.{PassedAt, passed-start, ends-within, passed-next, passed-end}
 use Rattle.quantiser.proofs.cells.threshold_of.Statement.{statement}

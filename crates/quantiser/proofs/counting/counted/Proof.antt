@@ -1,6 +1,5 @@
 -- `quantiser::counting::counted` meets its contract. Assumes nothing.
 use mathlib.Core.Path.{_∙_}
-use native.Mathlib.Nat.{le-trans}
 use native.Mathlib.Omega.{arith}
 use borrow.Author.Needs.{needs}
 use Rattle.separation.specs.Laws.{InkValues}

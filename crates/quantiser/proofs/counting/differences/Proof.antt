@@ -55,7 +55,6 @@ loop-less c = search needs
 loop-again : tie.Need-loop-again Inv-loop μ-loop
 loop-again c =
     let turn = c .before .before in
-    let start = turn .before .args in
     (filling-store (turn .loop .inv .0) _ (omega arith) (ap₂ (λ (y z : ℕ). y - z) (c .running-sum .ensures) (turn .loop .inv .1)), c .running-sum .ensures ∙ rw add-one)
 
 returns : tie.Need-returns Inv-loop μ-loop

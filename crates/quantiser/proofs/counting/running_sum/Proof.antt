@@ -1,5 +1,5 @@
 -- `quantiser::counting::running_sum` meets its contract: what each separation divides by is 2 × its own D. Assumes nothing.
-use Prim.Native.Nat.{ℕ, _*_, _/_}
+use Prim.Native.Nat.{_*_, _/_}
 use mathlib.Core.Path.{sym, ap}
 use borrow.Author.Needs.{needs}
 use Rattle.separation.specs.declared.Separation.{Separation}
