@@ -26,5 +26,5 @@ pub record Marks : Type 0 where
   -- what the law of the order says of its second and its third
   pub falls-law : OrderFalls → 26 ≤ 26
   pub ties-law : OrderFalls → 0 < 1
-  -- rule 14.1: the ink bill, cellular prediction, and stored numbers
-  pub in-force : rulesInForce ≡ 3
+  -- rule 14.1: the ink bill, cellular prediction, stored numbers, and the bit mask
+  pub in-force : rulesInForce ≡ 4

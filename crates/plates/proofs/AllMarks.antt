@@ -17,6 +17,7 @@ pub marks : Marks
 unfolding every firstBelow upto sumBelow tally mask bitAt planeByte planesByte planesOf planesWith colorantOf cellsOf colorantsOnly pixelsOnce paddingClear onSheet lengthsRefusal sizeRefusal packRefusal unpackRefusal packed unpacked
 marks =
     record {
+      masks = refl;
       off-the-sheet = refl;
       cells-missing = refl;
       planes-missing = refl;
@@ -29,6 +30,7 @@ marks =
       planes-written = refl;
       white-found = refl;
       cells-written = refl;
+      mask-law = λ law. law 11;
       bit-law = λ law. law 2 2 cells 1 0 2 (omega arith) (omega arith) (omega arith);
       tally-law = λ law. law 2 2 cells refl 1 (omega arith);
     }

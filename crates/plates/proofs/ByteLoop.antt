@@ -1,7 +1,7 @@
--- The loop of `masks_of` over plain numbers: the masks of the first t pixels of a byte are added up, each times 1 or 0. A row's last byte may have
--- fewer pixels than eight; those that it lacks add nothing.
+-- The loop of `masks_of` over plain numbers: the masks of the first t of a byte's eight places are added up, each times 1 or 0. A place past the pixels
+-- adds nothing.
 -- Assumes nothing.
-use Prim.Native.Nat.{ℕ, _+_, _-_, _*_, _≤_, _<_}
+use Prim.Native.Nat.{ℕ, _+_, _*_, _≤_, _<_}
 use mathlib.Core.Path.{_≡_, refl, ap, _∙_}
 use mathlib.Core.Bool.{Bool, true, false}
 use native.Mathlib.Nat.{zero-mul}
@@ -11,7 +11,7 @@ use lib.Dec.{eqb}
 use mir.Val.{boolByte}
 use borrow.Author.Tests.{lt-ltb, le-ltb}
 use Rattle.arith.specs.Sum.{sumBelow, indicator}
-use Rattle.arith.proofs.SumLaws.{sum-split, sum-constant}
+use Rattle.arith.proofs.SumLaws.{sum-same}
 use Rattle.arith.proofs.TallyLaws.{indicator-le}
 use Rattle.plates.specs.Masks.{mask}
 use Rattle.plates.specs.Planes.{inPlane, masksUpTo, planeByte}
@@ -21,31 +21,35 @@ as-number : (t : Bool) → boolByte t ≡ indicator t
 as-number true = refl
 as-number false = refl
 
-pub record ByteAt (columns : ℕ) (cell : ℕ → ℕ) (p b pixels byte t : ℕ) : Type 0 where
-  pub eight : pixels ≤ 8
-  pub there : 8 * b + pixels ≤ columns
-  pub within : t ≤ pixels
-  pub sum : byte ≡ masksUpTo columns cell p b t
+pub record ByteAt (cell : ℕ → ℕ) (p b pixels byte t : ℕ) : Type 0 where
+  pub within : t ≤ 8
+  pub sum : byte ≡ masksUpTo (8 * b + pixels) cell p b t
 
-pub byte-start : (columns : ℕ) (cell : ℕ → ℕ) (p b pixels : ℕ) → pixels ≤ 8 → 8 * b + pixels ≤ columns → ByteAt columns cell p b pixels 0 0
+pub byte-start : (cell : ℕ → ℕ) (p b pixels : ℕ) → ByteAt cell p b pixels 0 0
 unfolding masksUpTo sumBelow
-byte-start columns cell p b pixels e h = record { eight = e; there = h; within = omega arith; sum = refl }
+byte-start cell p b pixels = record { within = omega arith; sum = refl }
 
-module _ {columns : ℕ} {cell : ℕ → ℕ} {p b pixels byte t : ℕ} (s : ByteAt columns cell p b pixels byte t) where
-  pub byte-end : pixels ≤ t → byte ≡ masksUpTo columns cell p b pixels
+module _ {cell : ℕ → ℕ} {p b pixels byte t : ℕ} (s : ByteAt cell p b pixels byte t) where
+  pub byte-end : 8 ≤ t → byte ≡ planeByte (8 * b + pixels) cell p b
+  unfolding planeByte
   byte-end h =
-      let q : t ≡ pixels = omega (arith, s .within) in
-      s .sum ∙ ap (masksUpTo columns cell p b) q
+      let q : t ≡ 8 = omega (arith, s .within) in
+      s .sum ∙ ap (masksUpTo (8 * b + pixels) cell p b) q
 
-  module _ (l : t < pixels) where
-    pub byte-pixel : 8 * b + t < columns
-    byte-pixel = omega (arith, s .there)
+  module _ (room : t < 8) where
+    pub byte-past : pixels ≤ t → ByteAt cell p b pixels byte (t + 1)
+    unfolding masksUpTo sumBelow
+    byte-past h =
+        record {
+          within = omega arith;
+          sum = rw (add-one t, le-ltb (8 * b + t) (8 * b + pixels) (omega arith)) (omega (arith, s .sum, zero-mul (mask (8 * b + t))));
+        }
 
-    -- the test of a pixel as a number
-    tested : (has : Bool) → has ≡ eqb (cell (8 * b + t)) p → boolByte has ≡ indicator (inPlane columns cell p (8 * b + t))
-    tested has e = as-number has ∙ rw (lt-ltb (8 * b + t) columns byte-pixel, e) refl
+    module _ (l : t < pixels) (has : Bool) (e : has ≡ eqb (cell (8 * b + t)) p) where
+      -- the test of a pixel as a number
+      tested : boolByte has ≡ indicator (inPlane (8 * b + pixels) cell p (8 * b + t))
+      tested = as-number has ∙ rw (lt-ltb (8 * b + t) (8 * b + pixels) (omega arith), e) refl
 
-    module _ (has : Bool) (e : has ≡ eqb (cell (8 * b + t)) p) where
       pub byte-part : boolByte has * mask (8 * b + t) ≤ mask (8 * b + t)
       byte-part = most has
         where
@@ -60,19 +64,19 @@ module _ {columns : ℕ} {cell : ℕ → ℕ} {p b pixels byte t : ℕ} (s : Byt
             arith,
             byte-part,
             s .sum,
-            byte-room b (λ i. indicator (inPlane columns cell p (8 * b + i))) (λ i. indicator-le (inPlane columns cell p (8 * b + i))) t (omega (arith, s .eight)),
+            byte-room b (λ i. indicator (inPlane (8 * b + pixels) cell p (8 * b + i))) (λ i. indicator-le (inPlane (8 * b + pixels) cell p (8 * b + i))) t room,
           )
 
-      pub byte-next : ByteAt columns cell p b pixels (byte + boolByte has * mask (8 * b + t)) (t + 1)
+      pub byte-next : ByteAt cell p b pixels (byte + boolByte has * mask (8 * b + t)) (t + 1)
       unfolding masksUpTo sumBelow
-      byte-next = record { eight = s .eight; there = s .there; within = omega arith; sum = rw (add-one t, tested has e, s .sum) }
+      byte-next = record { within = omega arith; sum = rw (add-one t, tested, s .sum) }
 
--- the pixels that a row's last byte lacks
-pub byte-rest : (columns : ℕ) (cell : ℕ → ℕ) (p b pixels : ℕ) → pixels ≤ 8 → columns ≤ 8 * b + pixels → masksUpTo columns cell p b pixels ≡ planeByte columns cell p b
-unfolding masksUpTo planeByte
-byte-rest columns cell p b pixels few h =
-    let f : ℕ → ℕ = λ t. indicator (inPlane columns cell p (8 * b + t)) * mask (8 * b + t) in
-    let none : sumBelow (8 - pixels) (λ i. f (pixels + i)) ≡ (8 - pixels) * 0 =
-    sum-constant (8 - pixels) 0 (λ i. f (pixels + i)) (λ i l. rw (le-ltb (8 * b + (pixels + i)) columns (omega arith)) (zero-mul _)) in
-    let whole : pixels + (8 - pixels) ≡ 8 = omega arith in
-    omega (arith, none, sum-split pixels (8 - pixels) f, ap (λ (k : ℕ). sumBelow k f) whole)
+-- A byte depends on the columns only as far as its eight places go: all of them are columns, or the columns end in it.
+module _ (columns : ℕ) (cell : ℕ → ℕ) (p b : ℕ) where
+  pub byte-full : 8 * b + 8 ≤ columns → planeByte (8 * b + 8) cell p b ≡ planeByte columns cell p b
+  unfolding planeByte
+  byte-full h =
+      sum-same 8 _ _ (λ t l. rw (lt-ltb (8 * b + t) (8 * b + 8) (omega arith), lt-ltb (8 * b + t) columns (omega arith)) refl)
+
+  pub byte-last : (pixels : ℕ) → 8 * b + pixels ≡ columns → planeByte (8 * b + pixels) cell p b ≡ planeByte columns cell p b
+  byte-last pixels e = ap (λ (n : ℕ). planeByte n cell p b) e

@@ -1,15 +1,27 @@
 -- Laws of `mask`: the masks of eight neighbouring pixels halve from 128 to 1, so that a byte is the masks of its bits added up, and each bit is read back from such a sum.
--- Only the laws of the first part open the definition.
+-- Only the laws of halving and of the eight masks open the definitions.
 -- Assumes nothing.
-use Prim.Native.Nat.{ℕ, zero, suc, _+_, _-_, _*_, _/_, _%_, _≤_, _<_}
+use Prim.Native.Nat.{ℕ, zero, suc, _+_, _-_, _*_, _/_, _%_, _^_, _≤_, _<_}
 use mathlib.Core.Path.{_≡_, refl, sym, ap, ap₂, _∙_}
-use native.Mathlib.Nat.{zero-mul, mul-add-mod-self-left, mul-le-mul-right, mod-eq-of-lt, mod-one}
+use mathlib.Core.List.{[], _∷_}
+use native.Mathlib.Nat.{mul-add-mod-self-left, mul-le-mul-right, mod-eq-of-lt, mod-one, div-one}
+use native.Mathlib.Numerals.{add-one}
 use native.Mathlib.Omega.{arith}
+use lib.ListN.{getD}
 use lib.Arith.{mod-mul}
-use lib.Bits.{bitAnd, and-high}
+use lib.Pow.{shr-shr}
 use Rattle.arith.specs.Sum.{sumBelow}
 use Rattle.arith.proofs.SumLaws.{sum-same}
-use Rattle.plates.specs.Masks.{mask, bit}
+use Rattle.plates.specs.Masks.{halved, mask, bit}
+use Rattle.plates.specs.Laws.{MaskValues}
+
+-- ---- halving
+
+-- a shift halves so many times at once
+pub halved-at-once : (n times : ℕ) → n / 2 ^ times ≡ halved n times
+unfolding halved
+halved-at-once n zero = div-one n
+halved-at-once n (suc times) = rw (← halved-at-once n times, ← add-one times) (sym (shr-shr n times 1))
 
 -- ---- the eight masks
 
@@ -24,6 +36,10 @@ each P a b c d e f g h (suc (suc (suc (suc (suc zero))))) l = f
 each P a b c d e f g h (suc (suc (suc (suc (suc (suc zero)))))) l = g
 each P a b c d e f g h (suc (suc (suc (suc (suc (suc (suc zero))))))) l = h
 each P a b c d e f g h (suc (suc (suc (suc (suc (suc (suc (suc t)))))))) l = absurd (omega arith)
+
+pub mask-values : MaskValues
+unfolding mask
+mask-values x = each (λ t. halved 128 t ≡ getD (128 ∷ 64 ∷ 32 ∷ 16 ∷ 8 ∷ 4 ∷ 2 ∷ 1 ∷ []) t 0) refl refl refl refl refl refl refl refl (x % 8) (omega arith)
 
 mask-repeats : (b t : ℕ) → mask (8 * b + t) ≡ mask t
 unfolding mask
@@ -55,12 +71,6 @@ bits-out : (byte : ℕ) (f : ℕ → ℕ)
 unfolding mask
 bits-out byte f h = each (λ t. bit byte t ≡ f t) (h .0) (h .1) (h .2) (h .3) (h .4) (h .5) (h .6) (h .7)
 
--- a byte's digit under the mask of each of eight pixels
-digit-out : (byte t : ℕ) → t < 8 → bitAnd byte (mask t) ≡ bit byte t * mask t
-unfolding mask
-digit-out byte =
-    each (λ t. bitAnd byte (mask t) ≡ bit byte t * mask t) (and-high byte 1 7) (and-high byte 1 6) (and-high byte 1 5) (and-high byte 1 4) (and-high byte 1 3) (and-high byte 1 2) (and-high byte 1 1) (and-high byte 1 0)
-
 -- ---- bytes
 
 -- a mask is at least 1, since 1 is the last
@@ -70,30 +80,10 @@ mask-left zero t e =
     rw (q, mask-last) (omega arith)
 mask-left (suc k) t e = omega (arith, mask-left k (suc t) (omega arith), mask-halves t (omega arith))
 
-mask-pos : (x : ℕ) → 0 < mask x
+pub mask-pos : (x : ℕ) → 0 < mask x
 mask-pos x =
     let q : x ≡ 8 * (x / 8) + x % 8 = omega arith in
     rw (q, mask-repeats) (mask-left (7 - x % 8) (x % 8) (omega arith))
-
--- the digit of a byte under a pixel's mask is 0 exactly where its bit is
-masked : (byte x : ℕ) → bitAnd byte (mask x) ≡ bit byte x * mask x
-masked byte x =
-    let q : x ≡ 8 * (x / 8) + x % 8 = omega arith in
-    rw (q, mask-repeats) (digit-out byte (x % 8) (omega arith))
-
-pub bit-clear : (byte x : ℕ) → bitAnd byte (mask x) ≡ 0 → 0 ≡ bit byte x
-bit-clear byte x e = sym (go (bit byte x) (mask x) (mask-pos x) (sym (masked byte x) ∙ e))
-  where
-    go : (b m : ℕ) → 0 < m → b * m ≡ 0 → b ≡ 0
-    go zero m pos q = refl
-    go (suc b) m pos q = absurd (omega arith)
-
-pub bit-set : (byte x : ℕ) → (bitAnd byte (mask x) ≡ 0 → ⊥) → 1 ≡ bit byte x
-bit-set byte x h = sym (go (bit byte x) (mask x) (omega arith) (λ e. h (masked byte x ∙ e)))
-  where
-    go : (b m : ℕ) → b ≤ 1 → (b * m ≡ 0 → ⊥) → b ≡ 1
-    go zero m l none = absurd (none (zero-mul m))
-    go (suc b) m l none = omega arith
 
 module _ (f : ℕ → ℕ) (ones : (t : ℕ) → f t ≤ 1) where
   -- the masks so far leave room for all that follow

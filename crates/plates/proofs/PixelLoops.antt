@@ -1,14 +1,43 @@
--- The loops over the eight planes of a pixel, over plain numbers: how many planes it is in, and the first that it is in.
+-- The loops over the eight planes of a pixel, over plain numbers: where its row begins in each, how many planes it is in, and the first that it is in.
 -- Assumes nothing.
-use Prim.Native.Nat.{ℕ, _+_, _*_, _≤_, _<_}
+use Prim.Native.Nat.{ℕ, _+_, _*_, _/_, _≤_, _<_}
 use mathlib.Core.Path.{_≡_, refl, ap, _∙_}
 use mathlib.Core.Bool.{Bool}
 use mathlib.Core.List.{List}
 use native.Mathlib.Numerals.{add-one}
 use native.Mathlib.Omega.{arith}
+use lib.Arith.{digits-lt}
 use lib.Dec.{eqb}
+use lib.ListN.{getD}
 use Rattle.arith.specs.Sum.{sumBelow}
+use Rattle.plates.specs.Masks.{bit}
 use Rattle.plates.specs.Planes.{bitAt, planesWith}
+use Rattle.plates.proofs.PlaceLaws.{row-ends}
+
+-- ---- from plane to plane
+
+-- row y of plane p begins at that byte
+pub record RowAt (bytes rows y start p : ℕ) : Type 0 where
+  pub there : start ≡ (p * rows + y) * bytes
+
+pub row-first : (bytes rows y : ℕ) → RowAt bytes rows y (y * bytes) 0
+row-first bytes rows y = record { there = omega arith }
+
+module _ {bytes rows y start p : ℕ} (s : RowAt bytes rows y start p) where
+  pub row-next : RowAt bytes rows y (start + rows * bytes) (p + 1)
+  row-next = record { there = omega (arith, s .there) }
+
+  module _ (l : p < 8) (k : y < rows) where
+    pub row-byte : (b : ℕ) → b < bytes → start + b < 8 * rows * bytes
+    row-byte b h = rw (s .there) (digits-lt (digits-lt l k) h)
+
+    pub row-room : start + rows * bytes ≤ 2 * (8 * rows * bytes)
+    row-room = rw (s .there) (omega (arith, row-ends (8 * rows) bytes (p * rows + y) (digits-lt l k)))
+
+  -- its bit there
+  pub row-bit : (planes : List ℕ) (x r : ℕ) → r ≡ bit (getD planes (start + x / 8) 0) x → r ≡ bitAt bytes planes (p * rows + y) x
+  unfolding bitAt
+  row-bit planes x r e = e ∙ ap (λ (i : ℕ). bit (getD planes (i + x / 8) 0) x) (s .there)
 
 -- ---- counting
 

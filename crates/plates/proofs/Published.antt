@@ -1,4 +1,4 @@
--- The laws of specs/Laws.antt, proved: those of the definitions (PlaneLaws, NineLaws), and from them those of the two calls.
+-- The laws of specs/Laws.antt, proved: those of the definitions (MaskLaws, PlaneLaws, NineLaws), and from them those of the two calls.
 -- Assumes nothing.
 use mathlib.Core.Path.{_≡_, sym, _∙_}
 use mathlib.Core.List.{List}
@@ -8,6 +8,7 @@ use Rattle.arith.proofs.RunLaws.{upto-length}
 use Rattle.plates.specs.Planes.{planesLength, cellsLength, planesOf, cellsOf}
 use Rattle.plates.specs.Laws.{PackThenUnpack, UnpackThenPack, SizesAgree}
 use Rattle.plates.proofs.Refusals.{size-kept, size-right, pack-kept, pack-0, unpack-kept, unpack-0}
+pub use Rattle.plates.proofs.MaskLaws.{mask-values}
 pub use Rattle.plates.proofs.PlaneLaws.{plane-bit, plane-tally, cells-back, planes-back, unpacked-tally}
 pub use Rattle.plates.proofs.NineLaws.{pack-nine, unpack-nine}
 

@@ -1,15 +1,22 @@
 -- What `plates` promises of its definitions to the crates above. Each is a statement; proofs/Published.antt proves it.
 -- Assumes nothing.
-use Prim.Native.Nat.{ℕ, _+_, _*_, _≤_, _<_}
+use Prim.Native.Nat.{ℕ, _+_, _*_, _%_, _≤_, _<_}
 use mathlib.Core.Path.{_≡_}
 use mathlib.Core.Bool.{true}
-use mathlib.Core.List.{List}
+use mathlib.Core.List.{List, [], _∷_}
 use mathlib.Core.Logic.{_⊎_, _≢_}
 use lib.ListN.{length, getD}
 use Rattle.arith.specs.Sum.{sumBelow, indicator}
 use Rattle.arith.specs.Tally.{tally}
+use Rattle.plates.specs.Masks.{mask}
 use Rattle.plates.specs.Planes.{rowBytes, planesLength, cellsLength, cellAt, bitAt, inPlane, planesOf, planesWith, cellsOf, colorantsOnly, pixelsOnce, paddingClear}
 use Rattle.plates.specs.Refusals.{packSize, unpackSize, packRefusal, unpackRefusal, packed, unpacked}
+
+-- ---- the masks
+
+-- rule 8.3: every pixel has the mask that a table of eight gave it before request 4, so that packing and unpacking read and write as they did
+abbrev pub MaskValues : Type 0
+MaskValues = (x : ℕ) → mask x ≡ getD (128 ∷ 64 ∷ 32 ∷ 16 ∷ 8 ∷ 4 ∷ 2 ∷ 1 ∷ []) (x % 8) 0
 
 -- ---- a plane's bits
 

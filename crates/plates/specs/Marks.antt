@@ -4,9 +4,10 @@ use Prim.Native.Nat.{ℕ}
 use mathlib.Core.Path.{_≡_}
 use mathlib.Core.List.{List, [], _∷_}
 use Rattle.arith.specs.Run.{upto}
+use Rattle.plates.specs.Masks.{mask}
 use Rattle.plates.specs.Planes.{bitAt, colorantOf}
 use Rattle.plates.specs.Refusals.{packRefusal, unpackRefusal, packed, unpacked}
-use Rattle.plates.specs.Laws.{PlaneBit, bitsSet, PlaneTally}
+use Rattle.plates.specs.Laws.{MaskValues, PlaneBit, bitsSet, PlaneTally}
 
 -- rule 12.9, two columns by two rows: cyan and magenta, then magenta and white
 abbrev pub cells : List ℕ
@@ -24,6 +25,8 @@ abbrev pub padded : List ℕ
 padded = 0 ∷ 0 ∷ 0 ∷ 0 ∷ 0 ∷ 0 ∷ 0 ∷ 192 ∷ []
 
 pub record Marks : Type 0 where
+  -- rule 8.3: the masks of columns 0 to 8
+  pub masks : upto mask 9 ≡ 128 ∷ 64 ∷ 32 ∷ 16 ∷ 8 ∷ 4 ∷ 2 ∷ 1 ∷ 128 ∷ []
   -- off the sheet, then the lengths, input first, then 9
   pub off-the-sheet : packRefusal 1 65537 [] 0 ≡ 5
   pub cells-missing : packRefusal 1 1 [] 0 ≡ 6
@@ -39,6 +42,7 @@ pub record Marks : Type 0 where
   pub planes-written : packed 2 2 cells (upto (λ i. 9) 16) ≡ planes
   pub white-found : colorantOf 1 2 planes 1 1 ≡ 7
   pub cells-written : unpacked 2 2 planes (9 ∷ 9 ∷ 9 ∷ 9 ∷ []) ≡ cells
-  -- what the laws say of a bit of magenta's padding and of magenta's tally
+  -- what the laws say of the mask of column 11, of a bit of magenta's padding and of magenta's tally
+  pub mask-law : MaskValues → mask 11 ≡ 16
   pub bit-law : PlaneBit → bitAt 1 planes 2 2 ≡ 0
   pub tally-law : PlaneTally → bitsSet 2 2 planes 1 ≡ 2

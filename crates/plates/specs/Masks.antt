@@ -1,12 +1,16 @@
 -- Rule 8.3: the bit mask of a pixel.
 -- Assumes nothing: these are definitions.
-use Prim.Native.Nat.{ℕ, _/_, _%_}
-use mathlib.Core.List.{[], _∷_}
-use lib.ListN.{getD}
+use Prim.Native.Nat.{ℕ, zero, suc, _/_, _%_}
 
--- mask number x mod 8 of the table
+-- a number divided by 2 so many times
+unfoldable pub halved : ℕ → ℕ → ℕ
+halved n zero = n
+halved n (suc times) = halved n times / 2
+
+-- 128 divided by 2 as often as x mod 8 says
 unfoldable pub mask : ℕ → ℕ
-mask x = getD (128 ∷ 64 ∷ 32 ∷ 16 ∷ 8 ∷ 4 ∷ 2 ∷ 1 ∷ []) (x % 8) 0
+unfolding halved
+mask x = halved 128 (x % 8)
 
 -- the bit of pixel x in its byte, 0 or 1
 abbrev pub bit : ℕ → ℕ → ℕ

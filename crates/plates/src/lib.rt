@@ -12,13 +12,11 @@ ghost use Rattle.plates.specs.Planes.{rowBytes};
 ghost use Rattle.arith.specs.Sheet.{onSheet};
 ghost use Rattle.plates.specs.Refusals.{lengthsRefusal};
 
-const MASKS: [u8; 8] = [128, 64, 32, 16, 8, 4, 2, 1];
-
 // The bit mask of pixel x of a row.
 fn mask_of(x: usize) -> u8
     ensures { λ r. ⌜ r ≡ mask x ⌝ }
 {
-    MASKS[x % 8]
+    128 >> (x % 8)
 }
 
 // Whether a window at the sheet's corner lies on the sheet.

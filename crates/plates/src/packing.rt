@@ -3,7 +3,7 @@ ghost use mathlib.Core.Path.{_≡_};
 ghost use Prim.Native.Nat.{_+_, _*_, _≤_};
 ghost use lib.ListN.{length, getD};
 ghost use Rattle.arith.specs.Run.{upto};
-ghost use Rattle.plates.specs.Planes.{rowBytes, planesLength, cellsLength, planeByte, masksUpTo, planesOf, colorantsOnly};
+ghost use Rattle.plates.specs.Planes.{rowBytes, planesLength, cellsLength, planeByte, planesOf, colorantsOnly};
 ghost use Rattle.plates.specs.Refusals.{packRefusal, packed};
 use crate::lengths_refusal;
 use crate::mask_of;
@@ -78,7 +78,7 @@ fn write_row(cells: &[u8], colorant: u8, out: &mut [u8])
 }
 
 // Byte b of a row of the plane of a colorant. All bytes but a row's last have eight pixels, and are told
-// apart so that the compiler has a constant to unroll.
+// apart so that the compiler need not test each place.
 fn byte_of(cells: &[u8], colorant: u8, b: usize) -> u8
     requires { ⌜ (length (now cells) ≤ 65536) × (8 * b ≤ length (now cells)) ⌝ }
     ensures { λ r. ⌜ r ≡ planeByte (length (now (cells .entry))) (λ x. getD (now (cells .entry)) x 0) colorant b ⌝ }
@@ -90,16 +90,19 @@ fn byte_of(cells: &[u8], colorant: u8, b: usize) -> u8
     masks_of(cells, colorant, b, pixels)
 }
 
-// The masks of those of a byte's first pixels that have the colorant, added up.
+// The masks of those of a byte's first pixels that have the colorant, added up. The loop goes over all
+// eight places, so that the compiler unrolls it and each mask is a constant.
 fn masks_of(cells: &[u8], colorant: u8, b: usize, pixels: usize) -> u8
-    requires { ⌜ (length (now cells) ≤ 65536) × (pixels ≤ 8) × (8 * b + pixels ≤ length (now cells)) ⌝ }
-    ensures { λ r. ⌜ r ≡ masksUpTo (length (now (cells .entry))) (λ x. getD (now (cells .entry)) x 0) colorant b pixels ⌝ }
+    requires { ⌜ (length (now cells) ≤ 65536) × (8 * b + pixels ≤ length (now cells)) ⌝ }
+    ensures { λ r. ⌜ r ≡ planeByte (8 * b + pixels) (λ x. getD (now (cells .entry)) x 0) colorant b ⌝ }
 {
     let mut byte = 0;
-    for t in 0..pixels {
-        let x = 8 * b + t;
-        let has = (cells[x] == colorant) as u8;
-        byte += has * mask_of(x);
+    for t in 0..8 {
+        if t < pixels {
+            let x = 8 * b + t;
+            let has = (cells[x] == colorant) as u8;
+            byte += has * mask_of(x);
+        }
     }
     byte
 }

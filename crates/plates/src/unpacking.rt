@@ -2,9 +2,10 @@
 ghost use mathlib.Core.Path.{_≡_};
 ghost use Prim.Native.Nat.{_+_, _-_, _*_, _/_, _≤_, _<_};
 ghost use lib.Dec.{eqb};
-ghost use lib.ListN.{length};
+ghost use lib.ListN.{length, getD};
 ghost use Rattle.arith.specs.Run.{upto};
 ghost use Rattle.arith.specs.Every.{every};
+ghost use Rattle.plates.specs.Masks.{bit};
 ghost use Rattle.plates.specs.Planes.{rowBytes, planesLength, cellsLength, bitAt, planesWith, colorantOf, cellsOf, pixelsOnce, paddingClear};
 ghost use Rattle.plates.specs.Refusals.{unpackRefusal, unpacked};
 use crate::lengths_refusal;
@@ -41,7 +42,7 @@ pub fn unpack(columns: u32, rows: u32, planes: &[u8], cells: &mut [u8]) -> u32
 
 // Whether each pixel of a window is in exactly one plane.
 fn pixels_once(columns: usize, rows: usize, planes: &[u8]) -> bool
-    requires { ⌜ (columns ≤ 65536) × (rows ≤ 65536) × (length (now planes) ≡ planesLength columns rows) ⌝ }
+    requires { ⌜ (columns ≤ 65536) × (length (now planes) ≡ planesLength columns rows) ⌝ }
     ensures { λ r. ⌜ r ≡ pixelsOnce columns rows (now (planes .entry)) ⌝ }
 {
     let bytes = row_bytes(columns);
@@ -55,7 +56,7 @@ fn pixels_once(columns: usize, rows: usize, planes: &[u8]) -> bool
 
 // Whether each pixel of row y is in exactly one plane.
 fn row_once(columns: usize, bytes: usize, rows: usize, planes: &[u8], y: usize) -> bool
-    requires { ⌜ (bytes ≡ rowBytes columns) × (rows ≤ 65536) × (y < rows) × (length (now planes) ≡ 8 * rows * bytes) ⌝ }
+    requires { ⌜ (bytes ≡ rowBytes columns) × (y < rows) × (length (now planes) ≡ 8 * rows * bytes) ⌝ }
     ensures { λ r. ⌜ r ≡ every columns (λ x. eqb (planesWith bytes rows (now (planes .entry)) y x) 1) ⌝ }
 {
     for x in 0..columns {
@@ -66,28 +67,27 @@ fn row_once(columns: usize, bytes: usize, rows: usize, planes: &[u8], y: usize) 
     true
 }
 
-// In how many planes pixel (x, y) is.
+// In how many planes pixel (x, y) is. From plane to plane its row begins a plane's bytes further on.
 fn planes_with(bytes: usize, rows: usize, planes: &[u8], y: usize, x: usize) -> u8
-    requires { ⌜ (x / 8 < bytes) × (rows ≤ 65536) × (y < rows) × (length (now planes) ≡ 8 * rows * bytes) ⌝ }
+    requires { ⌜ (x / 8 < bytes) × (y < rows) × (length (now planes) ≡ 8 * rows * bytes) ⌝ }
     ensures { λ r. ⌜ r ≡ planesWith bytes rows (now (planes .entry)) y x ⌝ }
 {
+    let plane = rows * bytes;
+    let mut start = y * bytes;
     let mut count = 0;
-    for p in 0..8 {
-        count += bit_at(bytes, planes, p * rows + y, x);
+    for p in 0..8u8 {
+        count += bit_at(planes, start, x);
+        start += plane;
     }
     count
 }
 
-// The bit of pixel x in a row of the planes.
-fn bit_at(bytes: usize, planes: &[u8], row: usize, x: usize) -> u8
-    requires { ⌜ row * bytes + x / 8 < length (now planes) ⌝ }
-    ensures { λ r. ⌜ (r ≡ bitAt bytes (now (planes .entry)) row x) × (r ≤ 1) ⌝ }
+// The bit of pixel x in the row of the planes that begins at start.
+fn bit_at(planes: &[u8], start: usize, x: usize) -> u8
+    requires { ⌜ start + x / 8 < length (now planes) ⌝ }
+    ensures { λ r. ⌜ (r ≡ bit (getD (now (planes .entry)) (start + x / 8) 0) x) × (r ≤ 1) ⌝ }
 {
-    if planes[row * bytes + x / 8] & mask_of(x) == 0 {
-        0
-    } else {
-        1
-    }
+    planes[start + x / 8] / mask_of(x) % 2
 }
 
 // Whether no bit past the last column is set, in any row of the planes.
@@ -112,7 +112,7 @@ fn row_clear(columns: usize, bytes: usize, planes: &[u8], row: usize) -> bool
 {
     let padding = 8 * bytes - columns;
     for t in 0..padding {
-        if bit_at(bytes, planes, row, columns + t) != 0 {
+        if bit_at(planes, row * bytes, columns + t) != 0 {
             return false;
         }
     }
@@ -121,7 +121,7 @@ fn row_clear(columns: usize, bytes: usize, planes: &[u8], row: usize) -> bool
 
 // Writes the colorants of all pixels row by row.
 fn write_cells(columns: usize, rows: usize, planes: &[u8], cells: &mut [u8])
-    requires { ⌜ (columns ≤ 65536) × (rows ≤ 65536) × (length (now planes) ≡ planesLength columns rows) × (length (now cells) ≡ cellsLength columns rows) ⌝ }
+    requires { ⌜ (columns ≤ 65536) × (length (now planes) ≡ planesLength columns rows) × (length (now cells) ≡ cellsLength columns rows) ⌝ }
     ensures { λ _. ⌜ now (cells .exit) ≡ cellsOf columns rows (now (planes .entry)) ⌝ }
 {
     let bytes = row_bytes(columns);
@@ -135,7 +135,7 @@ fn write_cells(columns: usize, rows: usize, planes: &[u8], cells: &mut [u8])
 
 // Writes the colorants of the pixels of row y.
 fn write_row(bytes: usize, rows: usize, planes: &[u8], y: usize, out: &mut [u8])
-    requires { ⌜ (bytes ≡ rowBytes (length (now out))) × (rows ≤ 65536) × (y < rows) × (length (now planes) ≡ 8 * rows * bytes) ⌝ }
+    requires { ⌜ (bytes ≡ rowBytes (length (now out))) × (y < rows) × (length (now planes) ≡ 8 * rows * bytes) ⌝ }
     ensures { λ _. ⌜ now (out .exit) ≡ upto (colorantOf bytes rows (now (planes .entry)) y) (length (now (out .entry))) ⌝ }
 {
     for x in 0..out.len() {
@@ -145,13 +145,16 @@ fn write_row(bytes: usize, rows: usize, planes: &[u8], y: usize, out: &mut [u8])
 
 // The first plane that pixel (x, y) is in, or 8.
 fn colorant_of(bytes: usize, rows: usize, planes: &[u8], y: usize, x: usize) -> u8
-    requires { ⌜ (x / 8 < bytes) × (rows ≤ 65536) × (y < rows) × (length (now planes) ≡ 8 * rows * bytes) ⌝ }
+    requires { ⌜ (x / 8 < bytes) × (y < rows) × (length (now planes) ≡ 8 * rows * bytes) ⌝ }
     ensures { λ r. ⌜ r ≡ colorantOf bytes rows (now (planes .entry)) y x ⌝ }
 {
-    for p in 0..8 {
-        if bit_at(bytes, planes, p * rows + y, x) == 1 {
-            return p as u8;
+    let plane = rows * bytes;
+    let mut start = y * bytes;
+    for p in 0..8u8 {
+        if bit_at(planes, start, x) == 1 {
+            return p;
         }
+        start += plane;
     }
     8
 }

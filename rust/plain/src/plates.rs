@@ -2,9 +2,6 @@
 
 use crate::screen::SHEET;
 
-/// The masks of the bits of a byte, by x mod 8 (rule 8.3).
-const MASKS: [u8; 8] = [128, 64, 32, 16, 8, 4, 2, 1];
-
 /// The bytes of a plane's row: as many as W bits need (rule 8.1).
 fn row_bytes(columns: u32) -> u64 {
     u64::from(columns).div_ceil(8)
@@ -34,6 +31,11 @@ fn plane_byte(columns: u32, rows: u32, colorant: usize, x: u32, y: u32) -> usize
     (colorant * rows as usize + y as usize) * row + x as usize / 8
 }
 
+/// The mask of the bit of column x: 128 divided by 2 as often as x mod 8 says (rule 8.3).
+fn mask(x: u32) -> u8 {
+    128 >> (x % 8)
+}
+
 /// Packs colorant bytes into eight planes, or answers why they are refused (rule 8.5).
 pub fn pack(columns: u32, rows: u32, cells: &[u8], planes: &mut [u8]) -> u32 {
     let stated = u64::from(columns) * u64::from(rows);
@@ -49,7 +51,7 @@ pub fn pack(columns: u32, rows: u32, cells: &[u8], planes: &mut [u8]) -> u32 {
     for y in 0..rows {
         for x in 0..columns {
             let colorant = usize::from(cells[cell]);
-            planes[plane_byte(columns, rows, colorant, x, y)] |= MASKS[x as usize % 8];
+            planes[plane_byte(columns, rows, colorant, x, y)] |= mask(x);
             cell += 1;
         }
     }
@@ -58,7 +60,7 @@ pub fn pack(columns: u32, rows: u32, cells: &[u8], planes: &mut [u8]) -> u32 {
 
 /// Whether the bit of x in row y is set in a colorant's plane; x may be a padding bit's number.
 fn bit_set(columns: u32, rows: u32, planes: &[u8], colorant: usize, x: u32, y: u32) -> bool {
-    planes[plane_byte(columns, rows, colorant, x, y)] & MASKS[x as usize % 8] != 0
+    planes[plane_byte(columns, rows, colorant, x, y)] & mask(x) != 0
 }
 
 /// The colorants in whose planes the bit of x in row y is set.

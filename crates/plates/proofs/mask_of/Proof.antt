@@ -1,16 +1,19 @@
--- `plates::mask_of` meets its contract: its table is that of the definition. Assumes nothing.
-use mathlib.Core.Path.{refl}
+-- `plates::mask_of` meets its contract: a shift by so many digits halves so many times. Assumes nothing.
 use borrow.Author.Needs.{needs}
 use Rattle.plates.specs.Masks.{mask}
+use Rattle.plates.proofs.MaskLaws.{halved-at-once}
 use Rattle.plates.proofs.mask_of.Statement.{statement}
 use Rattle.plates.proofs.mask_of.Tie as tie
 
-array-read-result : tie.Need-array-read-result
-array-read-result c = search needs
+cast-result : tie.Need-cast-result
+cast-result c = search needs
+
+shr-result : tie.Need-shr-result
+shr-result c = search needs
 
 returns : tie.Need-returns
 unfolding mask
-returns c = refl
+returns c = halved-at-once _ _
 
 pub mask-of-spec : {M : Type 1} → statement M
-mask-of-spec = tie.close (tie.spec array-read-result returns)
+mask-of-spec = tie.close (tie.spec cast-result shr-result returns)

@@ -1,31 +1,25 @@
--- `plates::unpacking::bit_at` meets its contract. Assumes nothing.
+-- `plates::unpacking::bit_at` meets its contract: it divides by the mask as the definition does. Assumes nothing.
 use native.Mathlib.Omega.{arith}
 use borrow.Author.Needs.{needs}
-use Rattle.plates.specs.Planes.{bitAt}
-use Rattle.plates.proofs.MaskLaws.{bit-clear, bit-set}
+use Rattle.plates.proofs.MaskLaws.{mask-pos}
 use Rattle.plates.proofs.unpacking.bit_at.Statement.{statement}
 use Rattle.plates.proofs.unpacking.bit_at.Tie as tie
 
-mul-if1 : tie.Need-mul-if1
-mul-if1 c = search needs
+add-result : tie.Need-add-result
+add-result c = search needs
 
-add-if1 : tie.Need-add-if1
-add-if1 c = search needs
-
-shared-slice-read-if1 : tie.Need-shared-slice-read-if1
-shared-slice-read-if1 c = search needs
+shared-slice-read-result : tie.Need-shared-slice-read-result
+shared-slice-read-result c = search needs
 
 mask-of-requires : tie.Need-mask-of-requires
 mask-of-requires c κs = search needs
 
-returns : tie.Need-returns
-unfolding bitAt
-returns c = (bit-clear _ _ (rw (c .before .mask-of .ensures) at (c .if1 .taken)), omega arith)
+div-result : tie.Need-div-result
+div-result c = rw (c .mask-of .ensures) (mask-pos _)
 
-returns-2 : tie.Need-returns-2
-unfolding bitAt
-returns-2 c = (bit-set _ _ (λ e. c .if1 .left (rw (c .before .mask-of .ensures) e)), omega arith)
+returns : tie.Need-returns
+returns c = (rw (c .mask-of .ensures), omega arith)
 
 pub bit-at-spec : {M : Type 1} → statement M
 bit-at-spec =
-    tie.close (tie.spec mul-if1 add-if1 shared-slice-read-if1 mask-of-requires returns returns-2)
+    tie.close (tie.spec add-result shared-slice-read-result mask-of-requires div-result returns)

@@ -5,39 +5,46 @@ use mathlib.Core.Path.{sym, _∙_}
 use native.Mathlib.Omega.{arith}
 use borrow.Author.Needs.{needs}
 use borrow.Author.Tests.{eq-eqb, ne-eqb}
-use lib.Arith.{digits-lt}
 use Rattle.arith.proofs.FirstLaws.{Searching, searching-start, searching-on, searching-found, searching-end}
 use Rattle.plates.specs.Planes.{colorantOf}
-use Rattle.plates.proofs.PixelLoops.{has}
+use Rattle.plates.proofs.PlaceLaws.{row-ends}
+use Rattle.plates.proofs.PixelLoops.{RowAt, row-first, row-next, row-byte, row-room, row-bit, has}
 use Rattle.plates.proofs.unpacking.colorant_of.Statement.{statement}
 use Rattle.plates.proofs.unpacking.colorant_of.Tie as tie
 
 abbrev Inv-loop : tie.InvT-loop
-Inv-loop bytes rows planes y x p₀ p = Searching 8 (has bytes rows planes y x) p
+Inv-loop bytes rows planes y x plane start₀ p₀ start p = RowAt bytes rows y start p × Searching 8 (has bytes rows planes y x) p
 
 abbrev μ-loop : tie.MeasureT-loop
-μ-loop bytes rows planes y x p₀ p = 8 - p
+μ-loop bytes rows planes y x plane start₀ p₀ start p = 8 - p
+
+mul-plane : tie.Need-mul-plane Inv-loop μ-loop
+mul-plane c = omega (arith, c .before .pre .2)
+
+mul-start : tie.Need-mul-start Inv-loop μ-loop
+mul-start c =
+    let start = c .before in
+    omega (arith, row-ends (start .args .rows) (start .args .bytes) (start .args .y) (start .pre .1), start .pre .2)
 
 loop-holds : tie.Need-loop-holds Inv-loop μ-loop
-loop-holds c = searching-start _ _
-
-mul-bit-at : tie.Need-mul-bit-at Inv-loop μ-loop
-mul-bit-at c = omega (arith, digits-lt (c .loop-test .taken) (c .before .before .before .pre .2))
-
-add-bit-at : tie.Need-add-bit-at Inv-loop μ-loop
-add-bit-at c = omega (arith, digits-lt (c .loop-test .taken) (c .before .before .before .pre .2))
+loop-holds c = (row-first _ _ _, searching-start _ _)
 
 bit-at-requires : tie.Need-bit-at-requires Inv-loop μ-loop
 bit-at-requires c κs =
     let start = c .before .before .before in
-    rw (start .pre .3) (digits-lt (digits-lt (c .loop-test .taken) (start .pre .2)) (start .pre .0))
-
-cast-result : tie.Need-cast-result Inv-loop μ-loop
-cast-result c = search needs
+    rw (start .pre .2) (row-byte (c .before .loop .inv .0) (c .loop-test .taken) (start .pre .1) _ (start .pre .0))
 
 returns : tie.Need-returns Inv-loop μ-loop
 unfolding colorantOf
-returns c = searching-found (c .before .before .before .loop .inv) (eq-eqb _ _ (sym (c .before .bit-at .ensures .0) ∙ c .if1 .taken))
+returns c =
+    let inv = c .before .before .before .loop .inv in
+    searching-found (inv .1) (eq-eqb _ _ (sym (row-bit (inv .0) _ _ _ (c .before .bit-at .ensures .0)) ∙ c .if1 .taken))
+
+add-start : tie.Need-add-start Inv-loop μ-loop
+add-start c =
+    let turn = c .before .before in
+    let start = turn .before .before .before in
+    omega (arith, row-room (turn .before .loop .inv .0) (turn .loop-test .taken) (start .pre .1), start .pre .2)
 
 add-p : tie.Need-add-p Inv-loop μ-loop
 add-p c = search needs
@@ -46,11 +53,15 @@ loop-less : tie.Need-loop-less Inv-loop μ-loop
 loop-less c = search needs
 
 loop-again : tie.Need-loop-again Inv-loop μ-loop
-loop-again c = searching-on (c .before .before .before .loop .inv) (c .before .before .loop-test .taken) (ne-eqb _ _ (λ e. c .if1 .left (c .before .bit-at .ensures .0 ∙ e)))
+loop-again c =
+    let turn = c .before .before in
+    let inv = turn .before .loop .inv in
+    let bit = row-bit (inv .0) _ _ _ (c .before .bit-at .ensures .0) in
+    (row-next (inv .0), searching-on (inv .1) (turn .loop-test .taken) (ne-eqb _ _ (λ e. c .if1 .left (bit ∙ e))))
 
 returns-2 : tie.Need-returns-2 Inv-loop μ-loop
 unfolding colorantOf
-returns-2 c = searching-end (c .before .loop .inv) (c .loop-test .left)
+returns-2 c = searching-end (c .before .loop .inv .1) (c .loop-test .left)
 
 pub colorant-of-spec : {M : Type 1} → statement M
 colorant-of-spec =
@@ -58,12 +69,12 @@ colorant-of-spec =
     (tie.spec
     Inv-loop
     μ-loop
+    mul-plane
+    mul-start
     loop-holds
-    mul-bit-at
-    add-bit-at
     bit-at-requires
-    cast-result
     returns
+    add-start
     add-p
     loop-less
     loop-again

@@ -25,7 +25,7 @@ row-once-requires : tie.Need-row-once-requires Inv-loop μ-loop
 row-once-requires c κs =
     let start = c .before .before .before .before in
     let bytes = c .before .before .row-bytes .ensures in
-    (bytes, start .pre .1, c .loop-test .taken, rw bytes (start .pre .2))
+    (bytes, c .loop-test .taken, rw bytes (start .pre .1))
 
 returns : tie.Need-returns Inv-loop μ-loop
 unfolding pixelsOnce

@@ -25,6 +25,9 @@ sub-padding c = search needs
 loop-holds : tie.Need-loop-holds Inv-loop μ-loop
 loop-holds c = passed-start _ _
 
+mul-bit-at : tie.Need-mul-bit-at Inv-loop μ-loop
+mul-bit-at c = search needs
+
 add-bit-at : tie.Need-add-bit-at Inv-loop μ-loop
 add-bit-at c = search needs
 
@@ -32,6 +35,7 @@ bit-at-requires : tie.Need-bit-at-requires Inv-loop μ-loop
 bit-at-requires c κs = search needs
 
 returns : tie.Need-returns Inv-loop μ-loop
+unfolding bitAt
 returns c = passed-fails (c .before .before .before .loop .inv) (c .before .before .loop-test .taken) (ne-eqb _ _ (λ e. c .if1 .taken (c .before .bit-at .ensures .0 ∙ e)))
 
 add-t : tie.Need-add-t Inv-loop μ-loop
@@ -41,6 +45,7 @@ loop-less : tie.Need-loop-less Inv-loop μ-loop
 loop-less c = search needs
 
 loop-again : tie.Need-loop-again Inv-loop μ-loop
+unfolding bitAt
 loop-again c = passed-step (c .before .before .before .loop .inv) (c .before .before .loop-test .taken) (eq-eqb _ _ (sym (c .before .bit-at .ensures .0) ∙ c .if1 .left))
 
 returns-2 : tie.Need-returns-2 Inv-loop μ-loop
@@ -55,6 +60,7 @@ row-clear-spec =
     mul-padding
     sub-padding
     loop-holds
+    mul-bit-at
     add-bit-at
     bit-at-requires
     returns

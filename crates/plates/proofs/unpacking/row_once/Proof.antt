@@ -22,7 +22,7 @@ loop-holds c = passed-start _ _
 planes-with-requires : tie.Need-planes-with-requires Inv-loop μ-loop
 planes-with-requires c κs =
     let start = c .before .before .before in
-    (rw (start .pre .0) (omega (arith, c .loop-test .taken)), start .pre .1, start .pre .2, start .pre .3)
+    (rw (start .pre .0) (omega (arith, c .loop-test .taken)), start .pre .1, start .pre .2)
 
 returns : tie.Need-returns Inv-loop μ-loop
 returns c = passed-fails (c .before .before .before .loop .inv) (c .before .before .loop-test .taken) (ne-eqb _ _ (λ e. c .if1 .taken (c .before .planes-with .ensures ∙ e)))

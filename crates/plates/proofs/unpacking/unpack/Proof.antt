@@ -48,7 +48,7 @@ pixels-once-requires c κs =
     let sheet = passed (bytes .before .before .on-sheet .ensures) (bytes .before .if1 .left) in
     let size = size-kept _ _ _ _ _ _ (size-passed _ _ _ _ _ _ sheet (rw (bytes .row-bytes .ensures) at (long .before .lengths-refusal .ensures)) (long .if2 .left)) in
     let limits = corner-kept _ _ sheet in
-    (limits .0, limits .1, size .1)
+    (limits .0, size .1)
 
 returns-3 : tie.Need-returns-3
 returns-3 c =
@@ -83,7 +83,7 @@ write-cells-requires c κs =
     let sheet = passed (bytes .before .before .on-sheet .ensures) (bytes .before .if1 .left) in
     let size = size-kept _ _ _ _ _ _ (size-passed _ _ _ _ _ _ sheet (rw (bytes .row-bytes .ensures) at (long .before .lengths-refusal .ensures)) (long .if2 .left)) in
     let limits = corner-kept _ _ sheet in
-    (limits .0, limits .1, size .1, size .2)
+    (limits .0, size .1, size .2)
 
 same-length : tie.Need-same-length
 same-length c = search needs

@@ -20,7 +20,7 @@ loop-holds : tie.Need-loop-holds Inv-loop μ-loop
 loop-holds c = cells-start _ _ _ _
 
 add-next : tie.Need-add-next Inv-loop μ-loop
-add-next c = omega (arith, cells-size (c .before .loop .inv), cells-fits (c .before .loop .inv) (c .before .before .before .before .before .pre .3) (c .loop-test .taken))
+add-next c = omega (arith, cells-size (c .before .loop .inv), cells-fits (c .before .loop .inv) (c .before .before .before .before .before .pre .2) (c .loop-test .taken))
 
 sub-write-row : tie.Need-sub-write-row Inv-loop μ-loop
 sub-write-row c = search needs
@@ -29,14 +29,14 @@ part-write-row-start : tie.Need-part-write-row-start Inv-loop μ-loop
 part-write-row-start c = search needs
 
 part-write-row-end : tie.Need-part-write-row-end Inv-loop μ-loop
-part-write-row-end c = omega (arith, cells-fits (c .before .loop .inv) (c .before .before .before .before .before .pre .3) (c .loop-test .taken))
+part-write-row-end c = omega (arith, cells-fits (c .before .loop .inv) (c .before .before .before .before .before .pre .2) (c .loop-test .taken))
 
 write-row-requires : tie.Need-write-row-requires Inv-loop μ-loop
 write-row-requires c κs =
     let turn = c .before in
     let start = turn .before .before .before .before .before in
     let bytes = turn .before .before .row-bytes .ensures in
-    (rw (cells-part (turn .before .loop .inv) (start .pre .3) (turn .loop-test .taken)) bytes, start .pre .1, turn .loop-test .taken, rw bytes (start .pre .2))
+    (rw (cells-part (turn .before .loop .inv) (start .pre .2) (turn .loop-test .taken)) bytes, turn .loop-test .taken, rw bytes (start .pre .1))
 
 add-y : tie.Need-add-y Inv-loop μ-loop
 add-y c = search needs
@@ -48,13 +48,13 @@ loop-again : tie.Need-loop-again Inv-loop μ-loop
 loop-again c =
     let turn = c .before .before .before .before in
     let start = turn .before .before .before .before .before in
-    cells-step (turn .before .loop .inv) _ _ (start .pre .3) (turn .loop-test .taken) (turn .before .before .row-bytes .ensures) (c .before .before .write-row .ensures)
+    cells-step (turn .before .loop .inv) _ _ (start .pre .2) (turn .loop-test .taken) (turn .before .before .row-bytes .ensures) (c .before .before .write-row .ensures)
 
 same-length : tie.Need-same-length Inv-loop μ-loop
 same-length c = cells-size (c .before .loop .inv)
 
 returns : tie.Need-returns Inv-loop μ-loop
-returns c = cells-end (c .before .loop .inv) (c .before .before .before .before .before .pre .3) (c .loop-test .left)
+returns c = cells-end (c .before .loop .inv) (c .before .before .before .before .before .pre .2) (c .loop-test .left)
 
 pub write-cells-spec : {M : Type 1} → statement M
 write-cells-spec =

@@ -21,7 +21,7 @@ loop-holds c = filling-start _ _
 colorant-of-requires : tie.Need-colorant-of-requires Inv-loop μ-loop
 colorant-of-requires c κs =
     let start = c .before .before .before .before in
-    (rw (start .pre .0) (omega (arith, c .loop-test .taken)), start .pre .1, start .pre .2, start .pre .3)
+    (rw (start .pre .0) (omega (arith, c .loop-test .taken)), start .pre .1, start .pre .2)
 
 slice-write-out : tie.Need-slice-write-out Inv-loop μ-loop
 slice-write-out c = omega (arith, filling-length (c .before .before .loop .inv))
