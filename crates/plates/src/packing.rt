@@ -83,11 +83,10 @@ fn byte_of(cells: &[u8], colorant: u8, b: usize) -> u8
     requires { ⌜ (length (now cells) ≤ 65536) × (8 * b ≤ length (now cells)) ⌝ }
     ensures { λ r. ⌜ r ≡ planeByte (length (now (cells .entry))) (λ x. getD (now (cells .entry)) x 0) colorant b ⌝ }
 {
-    let pixels = cells.len() - 8 * b;
-    if 8 <= pixels {
+    if b < cells.len() / 8 {
         return masks_of(cells, colorant, b, 8);
     }
-    masks_of(cells, colorant, b, pixels)
+    masks_of(cells, colorant, b, cells.len() % 8)
 }
 
 // The masks of those of a byte's first pixels that have the colorant, added up. The loop goes over all

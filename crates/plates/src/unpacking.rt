@@ -105,12 +105,13 @@ fn padding_clear(columns: usize, rows: usize, planes: &[u8]) -> bool
     true
 }
 
-// Whether no bit past the last column is set in a row of the planes.
+// Whether no bit past the last column is set in a row of the planes. How many there are is worked out so
+// that the compiler sees that they are fewer than eight.
 fn row_clear(columns: usize, bytes: usize, planes: &[u8], row: usize) -> bool
     requires { ⌜ (columns ≤ 65536) × (bytes ≡ rowBytes columns) × (row * bytes + bytes ≤ length (now planes)) ⌝ }
     ensures { λ r. ⌜ r ≡ every (8 * bytes - columns) (λ t. eqb (bitAt bytes (now (planes .entry)) row (columns + t)) 0) ⌝ }
 {
-    let padding = 8 * bytes - columns;
+    let padding = (8 - columns % 8) % 8;
     for t in 0..padding {
         if bit_at(planes, row * bytes, columns + t) != 0 {
             return false;

@@ -6,12 +6,6 @@ use Rattle.plates.proofs.ByteLoop.{byte-full, byte-last}
 use Rattle.plates.proofs.packing.byte_of.Statement.{statement}
 use Rattle.plates.proofs.packing.byte_of.Tie as tie
 
-mul-pixels : tie.Need-mul-pixels
-mul-pixels c = search needs
-
-sub-pixels : tie.Need-sub-pixels
-sub-pixels c = search needs
-
 masks-of-requires : tie.Need-masks-of-requires
 masks-of-requires c κs = search needs
 
@@ -22,9 +16,7 @@ masks-of-requires-2 : tie.Need-masks-of-requires-2
 masks-of-requires-2 c κs = search needs
 
 returns-2 : tie.Need-returns-2
-returns-2 c = c .masks-of2 .ensures ∙ byte-last _ _ _ _ _ (omega (arith, c .before .before .before .pre))
+returns-2 c = c .masks-of2 .ensures ∙ byte-last _ _ _ _ _ (omega arith)
 
 pub byte-of-spec : {M : Type 1} → statement M
-byte-of-spec =
-    tie.close
-    (tie.spec mul-pixels sub-pixels masks-of-requires returns masks-of-requires-2 returns-2)
+byte-of-spec = tie.close (tie.spec masks-of-requires returns masks-of-requires-2 returns-2)

@@ -2,6 +2,7 @@
 -- Assumes nothing.
 use Prim.Native.Nat.{_+_, _*_, _-_}
 use mathlib.Core.Path.{sym, _∙_}
+use native.Mathlib.Omega.{arith}
 use lib.Dec.{eqb}
 use borrow.Author.Needs.{needs}
 use borrow.Author.Tests.{eq-eqb, ne-eqb}
@@ -15,9 +16,6 @@ Inv-loop columns bytes planes row padding t₀ t = Passed (8 * bytes - columns) 
 
 abbrev μ-loop : tie.MeasureT-loop
 μ-loop columns bytes planes row padding t₀ t = padding - t
-
-mul-padding : tie.Need-mul-padding Inv-loop μ-loop
-mul-padding c = search needs
 
 sub-padding : tie.Need-sub-padding Inv-loop μ-loop
 sub-padding c = search needs
@@ -36,7 +34,7 @@ bit-at-requires c κs = search needs
 
 returns : tie.Need-returns Inv-loop μ-loop
 unfolding bitAt
-returns c = passed-fails (c .before .before .before .loop .inv) (c .before .before .loop-test .taken) (ne-eqb _ _ (λ e. c .if1 .taken (c .before .bit-at .ensures .0 ∙ e)))
+returns c = passed-fails (c .before .before .before .loop .inv) (omega arith) (ne-eqb _ _ (λ e. c .if1 .taken (c .before .bit-at .ensures .0 ∙ e)))
 
 add-t : tie.Need-add-t Inv-loop μ-loop
 add-t c = search needs
@@ -46,10 +44,10 @@ loop-less c = search needs
 
 loop-again : tie.Need-loop-again Inv-loop μ-loop
 unfolding bitAt
-loop-again c = passed-step (c .before .before .before .loop .inv) (c .before .before .loop-test .taken) (eq-eqb _ _ (sym (c .before .bit-at .ensures .0) ∙ c .if1 .left))
+loop-again c = passed-step (c .before .before .before .loop .inv) (omega arith) (eq-eqb _ _ (sym (c .before .bit-at .ensures .0) ∙ c .if1 .left))
 
 returns-2 : tie.Need-returns-2 Inv-loop μ-loop
-returns-2 c = passed-end (c .before .loop .inv) (c .loop-test .left)
+returns-2 c = passed-end (c .before .loop .inv) (omega arith)
 
 pub row-clear-spec : {M : Type 1} → statement M
 row-clear-spec =
@@ -57,7 +55,6 @@ row-clear-spec =
     (tie.spec
     Inv-loop
     μ-loop
-    mul-padding
     sub-padding
     loop-holds
     mul-bit-at
