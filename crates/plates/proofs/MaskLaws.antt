@@ -18,10 +18,15 @@ use Rattle.plates.specs.Laws.{MaskValues}
 -- ---- halving
 
 -- a shift halves so many times at once
-pub halved-at-once : (n times : ℕ) → n / 2 ^ times ≡ halved n times
+halved-at-once : (n times : ℕ) → n / 2 ^ times ≡ halved n times
 unfolding halved
 halved-at-once n zero = div-one n
 halved-at-once n (suc times) = rw (← halved-at-once n times, ← add-one times) (sym (shr-shr n times 1))
+
+-- so 128 shifted x mod 8 digits to the right is the mask
+pub mask-shifted : (x digits : ℕ) → digits ≡ x % 8 → 128 / 2 ^ digits ≡ mask x
+unfolding mask
+mask-shifted x digits e = rw e (halved-at-once 128 (x % 8))
 
 -- ---- the eight masks
 

@@ -52,9 +52,9 @@ unfolding sumBelow
 count-start bytes rows planes y x = record { within = omega arith; few = omega arith; sum = refl }
 
 module _ {bytes rows : ℕ} {planes : List ℕ} {y x count p : ℕ} (s : CountAt bytes rows planes y x count p) where
-  pub count-step : (bit : ℕ) → p < 8 → bit ≡ bitAt bytes planes (p * rows + y) x → bit ≤ 1 → CountAt bytes rows planes y x (count + bit) (p + 1)
+  pub count-step : (r : ℕ) → p < 8 → r ≡ bitAt bytes planes (p * rows + y) x → r ≤ 1 → CountAt bytes rows planes y x (count + r) (p + 1)
   unfolding sumBelow
-  count-step bit l e h = record { within = omega arith; few = omega (arith, s .few); sum = rw (add-one p, e, s .sum) }
+  count-step r l e h = record { within = omega arith; few = omega (arith, s .few); sum = rw (add-one p, e, s .sum) }
 
   pub count-end : 8 ≤ p → count ≡ planesWith bytes rows planes y x
   unfolding planesWith

@@ -14,7 +14,7 @@ use Rattle.plates.specs.Refusals.{packSize, unpackSize, packRefusal, unp
 
 -- ---- the masks
 
--- rule 8.3: every pixel has the mask that a table of eight gave it before request 4, so that packing and unpacking read and write as they did
+-- rule 8.3: every pixel has the mask that a table of eight gave it before request 4, so that no call answers or writes anything else than it did with the table
 abbrev pub MaskValues : Type 0
 MaskValues = (x : ℕ) → mask x ≡ getD (128 ∷ 64 ∷ 32 ∷ 16 ∷ 8 ∷ 4 ∷ 2 ∷ 1 ∷ []) (x % 8) 0
 

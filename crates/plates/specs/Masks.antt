@@ -7,7 +7,7 @@ unfoldable pub halved : ℕ → ℕ → ℕ
 halved n zero = n
 halved n (suc times) = halved n times / 2
 
--- 128 divided by 2 as often as x mod 8 says
+-- 128, halved x mod 8 times
 unfoldable pub mask : ℕ → ℕ
 unfolding halved
 mask x = halved 128 (x % 8)

@@ -77,8 +77,8 @@ fn write_row(cells: &[u8], colorant: u8, out: &mut [u8])
     }
 }
 
-// Byte b of a row of the plane of a colorant. All bytes but a row's last have eight pixels, and are told
-// apart so that the compiler need not test each place.
+// Byte b of a row of the plane of a colorant. Bytes of eight pixels, which all are but perhaps a row's
+// last, are told apart, so that none of their places is tested.
 fn byte_of(cells: &[u8], colorant: u8, b: usize) -> u8
     requires { ⌜ (length (now cells) ≤ 65536) × (8 * b ≤ length (now cells)) ⌝ }
     ensures { λ r. ⌜ r ≡ planeByte (length (now (cells .entry))) (λ x. getD (now (cells .entry)) x 0) colorant b ⌝ }

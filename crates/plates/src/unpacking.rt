@@ -144,7 +144,7 @@ fn write_row(bytes: usize, rows: usize, planes: &[u8], y: usize, out: &mut [u8])
     }
 }
 
-// The first plane that pixel (x, y) is in, or 8.
+// The first plane that pixel (x, y) is in, or 8. It goes from plane to plane as planes_with does.
 fn colorant_of(bytes: usize, rows: usize, planes: &[u8], y: usize, x: usize) -> u8
     requires { ⌜ (x / 8 < bytes) × (y < rows) × (length (now planes) ≡ 8 * rows * bytes) ⌝ }
     ensures { λ r. ⌜ r ≡ colorantOf bytes rows (now (planes .entry)) y x ⌝ }

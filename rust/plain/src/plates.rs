@@ -31,7 +31,7 @@ fn plane_byte(columns: u32, rows: u32, colorant: usize, x: u32, y: u32) -> usize
     (colorant * rows as usize + y as usize) * row + x as usize / 8
 }
 
-/// The mask of the bit of column x: 128 divided by 2 as often as x mod 8 says (rule 8.3).
+/// The mask of the bit of column x: 128, halved x mod 8 times (rule 8.3).
 fn mask(x: u32) -> u8 {
     128 >> (x % 8)
 }

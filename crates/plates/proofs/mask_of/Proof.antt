@@ -1,7 +1,7 @@
 -- `plates::mask_of` meets its contract: a shift by so many digits halves so many times. Assumes nothing.
+use native.Mathlib.Omega.{arith}
 use borrow.Author.Needs.{needs}
-use Rattle.plates.specs.Masks.{mask}
-use Rattle.plates.proofs.MaskLaws.{halved-at-once}
+use Rattle.plates.proofs.MaskLaws.{mask-shifted}
 use Rattle.plates.proofs.mask_of.Statement.{statement}
 use Rattle.plates.proofs.mask_of.Tie as tie
 
@@ -12,8 +12,7 @@ shr-result : tie.Need-shr-result
 shr-result c = search needs
 
 returns : tie.Need-returns
-unfolding mask
-returns c = halved-at-once _ _
+returns c = mask-shifted _ _ (omega arith)
 
 pub mask-of-spec : {M : Type 1} → statement M
 mask-of-spec = tie.close (tie.spec cast-result shr-result returns)

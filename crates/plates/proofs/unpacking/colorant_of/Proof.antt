@@ -1,5 +1,5 @@
--- `plates::unpacking::colorant_of` meets its contract: no plane before the one that it looks at has the pixel. The measure is how many planes are left.
--- Assumes nothing.
+-- `plates::unpacking::colorant_of` meets its contract: the row begins where RowAt says (PixelLoops), and no plane before the one that it looks at has the
+-- pixel. The measure is how many planes are left. Assumes nothing.
 use Prim.Native.Nat.{_-_}
 use mathlib.Core.Path.{sym, _∙_}
 use native.Mathlib.Omega.{arith}
@@ -56,8 +56,8 @@ loop-again : tie.Need-loop-again Inv-loop μ-loop
 loop-again c =
     let turn = c .before .before in
     let inv = turn .before .loop .inv in
-    let bit = row-bit (inv .0) _ _ _ (c .before .bit-at .ensures .0) in
-    (row-next (inv .0), searching-on (inv .1) (turn .loop-test .taken) (ne-eqb _ _ (λ e. c .if1 .left (bit ∙ e))))
+    let read = row-bit (inv .0) _ _ _ (c .before .bit-at .ensures .0) in
+    (row-next (inv .0), searching-on (inv .1) (turn .loop-test .taken) (ne-eqb _ _ (λ e. c .if1 .left (read ∙ e))))
 
 returns-2 : tie.Need-returns-2 Inv-loop μ-loop
 unfolding colorantOf

@@ -1,5 +1,5 @@
--- `plates::unpacking::row_clear` meets its contract. The measure is how many padding bits are left.
--- Assumes nothing.
+-- `plates::unpacking::row_clear` meets its contract: (8 - W % 8) % 8 is what 8 times a row's bytes is more than W. The measure is how many padding bits are
+-- left. Assumes nothing.
 use Prim.Native.Nat.{_+_, _*_, _-_}
 use mathlib.Core.Path.{sym, _∙_}
 use native.Mathlib.Omega.{arith}
