@@ -1,4 +1,5 @@
 -- `plates::unpacking::bit_at` meets its contract: it divides by the mask as the definition does. Assumes nothing.
+use mathlib.Core.Path.{refl}
 use native.Mathlib.Omega.{arith}
 use borrow.Author.Needs.{needs}
 use Rattle.plates.proofs.MaskLaws.{mask-pos}
@@ -18,7 +19,7 @@ div-result : tie.Need-div-result
 div-result c = rw (c .mask-of .ensures) (mask-pos _)
 
 returns : tie.Need-returns
-returns c = (rw (c .mask-of .ensures), omega arith)
+returns c = (rw (c .mask-of .ensures) refl, omega arith)
 
 pub bit-at-spec : {M : Type 1} → statement M
 bit-at-spec =
