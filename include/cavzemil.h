@@ -111,7 +111,7 @@ cavzemil_made cavzemil_replace_subscreens(cavzemil_screen s, uint32_t k);
 /* Replaces the cell count, like cavzemil_replace_offset; the brick that is stored follows it. Refusals as there. */
 cavzemil_made cavzemil_replace_cells(cavzemil_screen s, uint32_t n);
 
-/* The phase of column x and row y (rules 2.2 and 2.4): (a x - b y - g) mod n, 0 to n - 1. Refusals 1 to 4, 15, 5. */
+/* The phase of column x and row y (rules 2.2 and 2.4): (a x + b y - g) mod n, 0 to n - 1. Refusals 1 to 4, 15, 5. */
 cavzemil_place cavzemil_phase_at(cavzemil_screen s, uint32_t x, uint32_t y);
 
 /* The brick's sizes as the screen stores them (rule 3.5); its columns times its rows are n. Refusals 1 to 4, 15. */

@@ -90,8 +90,8 @@ for screen in [
 ]:
     show_both(screen_of(*screen), (51, 102, 204))
 for screen in [
-    (4, 7, 105, 2, 0, 105, 1, 28), (4, 7, 105, 2, 0, 104, 1, 28), (4, 7, 105, 2, 0, 105, 2, 28),
-    (4, 7, 105, 2, 0, 105, 1, 133), (4, 7, 105, 2, 0, 35, 2, 21), (4, 7, 105, 17, 0, 105, 1, 133),
+    (4, 7, 105, 2, 0, 105, 1, 77), (4, 7, 105, 2, 0, 104, 1, 77), (4, 7, 105, 2, 0, 105, 2, 77),
+    (4, 7, 105, 2, 0, 105, 1, 182), (4, 7, 105, 2, 0, 35, 2, 14), (4, 7, 105, 17, 0, 105, 1, 182),
 ]:
     print(stored(screen))
     show_both(Screen(*screen), (51, 102, 204))
@@ -99,7 +99,7 @@ for screen in [
 print("# a b n k g, separation, c m y: counts, whatever the screen")
 for screen in [(4, 7, 105, 2, 0), (4, 8, 20, 3, 0), (4, 7, 0, 2, 0), (4, 7, TOP, 2, 0)]:
     show_counted(screen_of(*screen))
-false_shift = 4, 7, 105, 2, 0, 105, 1, 133
+false_shift = 4, 7, 105, 2, 0, 105, 1, 182
 print(stored(false_shift))
 show_counted(Screen(*false_shift))
 
@@ -111,8 +111,8 @@ for screen, places in [
 ]:
     show_table(screen_of(*screen), places)
 for screen, places in [
-    ((4, 7, 20, 3, 0, 5, 4, 2), 20), ((4, 7, 20, 3, 0, 5, 4, 7), 20), ((4, 7, 20, 3, 0, 5, 4, 7), 19),
-    ((4, 7, 20, 3, 20, 5, 4, 7), 19),
+    ((4, 7, 20, 3, 0, 5, 4, 3), 20), ((4, 7, 20, 3, 0, 5, 4, 8), 20), ((4, 7, 20, 3, 0, 5, 4, 8), 19),
+    ((4, 7, 20, 3, 20, 5, 4, 8), 19),
 ]:
     print(stored(screen))
     show_table(Screen(*screen), places)
@@ -122,7 +122,7 @@ for screen in [
     (4, 7, 20, 3, 0), (4, 7, 20, 1, 19), (4, 7, 20, 16, 0), (4, 7, 16, 16, 0), (1, 2, 1, 1, 0), (4, 8, 20, 3, 0),
 ]:
     show_lone(screen_of(*screen))
-false_shift = 4, 7, 20, 3, 0, 5, 4, 7
+false_shift = 4, 7, 20, 3, 0, 5, 4, 8
 print(stored(false_shift))
 show_lone(Screen(*false_shift))
 

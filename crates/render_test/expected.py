@@ -150,7 +150,7 @@ for window in [
     show_lent(SCREEN, window, lent_for(window))
 mixed(5)
 
-shifted, small = SCREEN._replace(shift=56), (8, 9, 3, 2)
+shifted, small = SCREEN._replace(shift=49), (8, 9, 3, 2)
 for screen in [SCREEN, SCREEN._replace(columns=36), SCREEN._replace(rows=1), shifted, shifted._replace(g=70)]:
     show_storing(screen, small, lent_for(small))
 for window, lent in [
@@ -169,8 +169,8 @@ for screen, x, y, inks in [
 ]:
     show_cell(screen_of(*screen), x, y, inks)
 for screen, x, y in [
-    ((4, 7, 105, 2, 0, 105, 1, 28), 3, 2), ((4, 7, 105, 2, 0, 105, 1, 27), 3, 2),
-    ((4, 7, 105, 2, 0, 105, 1, 27), 65536, 0), ((4, 7, 105, 2, 105, 105, 1, 27), 65536, 0),
+    ((4, 7, 105, 2, 0, 105, 1, 77), 3, 2), ((4, 7, 105, 2, 0, 105, 1, 76), 3, 2),
+    ((4, 7, 105, 2, 0, 105, 1, 76), 65536, 0), ((4, 7, 105, 2, 105, 105, 1, 76), 65536, 0),
 ]:
     print(stored(screen))
     show_cell(Screen(*screen), x, y, (128, 128, 0))

@@ -55,16 +55,20 @@ def show_stored(s):
         show_replaced(s, name, number)
 
 
+# the worked examples of rules 12.1, 12.2 and 12.12
+assert [brick(Screen(*s, 1, 0)) for s in [(4, 7, 105), (4, 7, 70), (1, 2, 1)]] == [(105, 1, 77), (35, 2, 14), (1, 1, 0)]
+assert [phase(Screen(4, 7, 105, 1, g), x, y) for x, y, g in [(0, 1, 0), (3, 2, 0), (0, 1, 40)]] == [7, 26, 72]
+
 # the worked examples of rule 12.18
 example = made(4, 7, 105, 2, 40)
-assert example == (0, (4, 7, 105, 2, 40, 105, 1, 28))
+assert example == (0, (4, 7, 105, 2, 40, 105, 1, 77))
 example = replaced(example[1], "n", 70)
-assert example == (0, (4, 7, 70, 2, 40, 35, 2, 21))
+assert example == (0, (4, 7, 70, 2, 40, 35, 2, 14))
 for name, number, refused in [("n", 1, 3), ("n", 40, 4), ("g", 70, 4), ("k", 17, 3)]:
     assert replaced(example[1], name, number) == (refused, example[1])
 
 # and of rule 12.19
-for columns, rows, shift in [(35, 2, 20), (36, 2, 21), (35, 1, 21), (35, 2, 56)]:
+for columns, rows, shift in [(35, 2, 21), (36, 2, 14), (35, 1, 14), (35, 2, 49)]:
     example = Screen(4, 7, 70, 2, 0, columns, rows, shift)
     assert replaced(example, "n", 0) == (15, example)
     assert place(example, 65536, 0) == "15 0"
@@ -114,9 +118,9 @@ for screen, replacements in [
     show_list(screen_of(*screen), replacements)
 for screen, replacements in [
     (Screen(0, 0, 0, 0, 0), [("n", 70)]),
-    (Screen(4, 7, 0, 2, 0, 35, 2, 21), [("n", 70)]),
-    (Screen(4, 7, 70, 17, 0, 35, 2, 21), [("k", 2), ("n", 0)]),
-    (Screen(4, 7, 70, 2, 70, 35, 2, 21), [("g", 0), ("n", 105), ("k", 17)]),
+    (Screen(4, 7, 0, 2, 0, 35, 2, 14), [("n", 70)]),
+    (Screen(4, 7, 70, 17, 0, 35, 2, 14), [("k", 2), ("n", 0)]),
+    (Screen(4, 7, 70, 2, 70, 35, 2, 14), [("g", 0), ("n", 105), ("k", 17)]),
 ]:
     show(screen)
     for name, number in replacements:
@@ -124,21 +128,21 @@ for screen, replacements in [
 
 print("# the same of screens that store these numbers, each replacement by itself")
 for numbers_stored in [
-    (35, 2, 21), (34, 2, 21), (36, 2, 21), (70, 2, 21), (0, 2, 21), (2147483683, 2, 21),
-    (35, 1, 21), (35, 3, 21), (35, 0, 21), (35, TOP, 21),
-    (35, 2, 20), (35, 2, 22), (35, 2, 56), (35, 2, 0), (35, 2, 1073741845),
+    (35, 2, 14), (34, 2, 14), (36, 2, 14), (70, 2, 14), (0, 2, 14), (2147483683, 2, 14),
+    (35, 1, 14), (35, 3, 14), (35, 0, 14), (35, TOP, 14),
+    (35, 2, 13), (35, 2, 15), (35, 2, 21), (35, 2, 49), (35, 2, 0), (35, 2, 1073741838),
 ]:
     show_stored(Screen(4, 7, 70, 2, 0, *numbers_stored))
 show_stored(Screen(1, 2, 1, 1, 0, 1, 1, 0))
 show_stored(Screen(1, 2, 1, 1, 0, 1, 1, 1))
-for numbers_stored in [(2, 35, 21), (7, 10, 0), (1, 70, 0), (105, 1, 28), (0, 0, 0), (TOP, TOP, TOP)]:
+for numbers_stored in [(2, 35, 14), (7, 10, 0), (1, 70, 0), (105, 1, 77), (0, 0, 0), (TOP, TOP, TOP)]:
     show_stored(Screen(4, 7, 70, 2, 0, *numbers_stored))
-of_70 = Screen(4, 7, 105, 2, 0, 35, 2, 21)
+of_70 = Screen(4, 7, 105, 2, 0, 35, 2, 14)
 show_stored(of_70)
 show_replaced(of_70, "n", 70)
 for screen in [(4, 8, 70, 2, 0), (4, 7, 0, 2, 0), (4, 7, 70, 17, 0), (4, 7, 70, 2, 70), (4, 7, 70, 2, 0)]:
-    show_stored(Screen(*screen, 35, 2, 20))
+    show_stored(Screen(*screen, 35, 2, 21))
 for x, y in [(65535, 65535), (65536, 0), (0, 65536)]:
-    show_place(Screen(4, 7, 70, 2, 0, 35, 2, 20), x, y)
+    show_place(Screen(4, 7, 70, 2, 0, 35, 2, 21), x, y)
 for places in [70, 69, 0]:
-    show_filled(Screen(4, 7, 70, 2, 0, 35, 2, 20), places)
+    show_filled(Screen(4, 7, 70, 2, 0, 35, 2, 21), places)

@@ -10,7 +10,7 @@
 //! let record = calls::make_screen(4, 7, 70, 1, 0).screen;
 //! assert_eq!(calls::counts_of(record, 1, [51, 102, 204]).of, [0, 0, 28, 0, 0, 14, 14, 14]);
 //! assert_eq!(calls::counts_of(record, 2, [51, 102, 204]).refusal, 100);
-//! assert_eq!(calls::counts_of(Record { shift: 20, ..record }, 1, [51, 102, 204]).refusal, 15);
+//! assert_eq!(calls::counts_of(Record { shift: 21, ..record }, 1, [51, 102, 204]).refusal, 15);
 //! ```
 
 use crate::ffi::{

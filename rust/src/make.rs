@@ -18,11 +18,11 @@ use crate::Record;
 /// use cavzemil::{Record, Refusal, Screen};
 ///
 /// let screen = Screen::new(4, 7, 105, 2, 40)?;
-/// assert_eq!((screen.columns(), screen.rows(), screen.shift()), (105, 1, 28));
+/// assert_eq!((screen.columns(), screen.rows(), screen.shift()), (105, 1, 77));
 ///
 /// let filed = Record::from(screen);
 /// assert_eq!(Screen::try_from(filed), Ok(screen));
-/// assert_eq!(Screen::try_from(Record { shift: 29, ..filed }), Err(Refusal::Stored));
+/// assert_eq!(Screen::try_from(Record { shift: 78, ..filed }), Err(Refusal::Stored));
 /// # Ok::<(), Refusal>(())
 /// ```
 ///
@@ -31,7 +31,7 @@ use crate::Record;
 /// ```compile_fail
 /// use cavzemil::{Record, Screen};
 ///
-/// let record = Record { a: 4, b: 7, n: 105, k: 2, g: 40, columns: 105, rows: 1, shift: 29 };
+/// let record = Record { a: 4, b: 7, n: 105, k: 2, g: 40, columns: 105, rows: 1, shift: 78 };
 /// let screen = Screen { record };
 /// ```
 #[derive(Clone, Copy, Debug, PartialEq, Eq, Hash)]
@@ -101,7 +101,7 @@ impl Screen {
     /// use cavzemil::{Refusal, Screen};
     ///
     /// let screen = Screen::new(4, 7, 105, 2, 40)?.with_cells(70)?;
-    /// assert_eq!((screen.columns(), screen.rows(), screen.shift()), (35, 2, 21));
+    /// assert_eq!((screen.columns(), screen.rows(), screen.shift()), (35, 2, 14));
     /// assert_eq!((screen.k(), screen.g()), (2, 40));
     /// assert_eq!(screen.with_cells(1), Err(Refusal::Subscreens));
     /// assert_eq!(screen.with_cells(40), Err(Refusal::Offset));

@@ -32,8 +32,8 @@ impl Screen {
     /// use cavzemil::{Refusal, Screen};
     ///
     /// let screen = Screen::new(4, 7, 105, 1, 0)?;
-    /// assert_eq!(screen.phase_at(0, 1), Ok(98));
-    /// assert_eq!(screen.phase_at(3, 2), Ok(103));
+    /// assert_eq!(screen.phase_at(0, 1), Ok(7));
+    /// assert_eq!(screen.phase_at(3, 2), Ok(26));
     /// assert_eq!(screen.phase_at(65_536, 0), Err(Refusal::OffSheet));
     /// # Ok::<(), Refusal>(())
     /// ```
@@ -50,7 +50,7 @@ impl Screen {
     /// use cavzemil::{Brick, Screen};
     ///
     /// let screen = Screen::new(4, 7, 70, 1, 0)?;
-    /// assert_eq!(screen.brick(), Brick { columns: 35, rows: 2, shift: 21 });
+    /// assert_eq!(screen.brick(), Brick { columns: 35, rows: 2, shift: 14 });
     /// # Ok::<(), cavzemil::Refusal>(())
     /// ```
     pub fn brick(self) -> Brick {

@@ -6,10 +6,10 @@ use cavzemil::{
 use cavzemil_plain as plain;
 
 /// The record of a screen that is admitted; no two of its numbers are equal.
-const RECORD: Record = Record { a: 4, b: 7, n: 70, k: 3, g: 5, columns: 35, rows: 2, shift: 21 };
+const RECORD: Record = Record { a: 4, b: 7, n: 70, k: 3, g: 5, columns: 35, rows: 2, shift: 14 };
 
 /// The same screen for the plain implementation.
-const PLAIN: plain::Screen = plain::Screen { a: 4, b: 7, n: 70, k: 3, g: 5, columns: 35, rows: 2, shift: 21 };
+const PLAIN: plain::Screen = plain::Screen { a: 4, b: 7, n: 70, k: 3, g: 5, columns: 35, rows: 2, shift: 14 };
 
 /// The screen of that record.
 fn screen() -> Screen {
@@ -54,7 +54,7 @@ fn every_refusal_has_its_number() {
     check(charge([0; 8], &[]), Refusal::Job, 13);
     let short = screen().predict_cellular(Separation::Kueppers, INKS, &[0.0; 764]);
     check(short, Refusal::PrimariesLength, 14);
-    check(Screen::try_from(Record { shift: 20, ..RECORD }), Refusal::Stored, 15);
+    check(Screen::try_from(Record { shift: 21, ..RECORD }), Refusal::Stored, 15);
 }
 
 /// Rules 17.3 and 17.4: each refusal of a replacement; the screen stays as it was.
@@ -83,7 +83,7 @@ fn every_refusal_of_a_record_arrives() {
     check(filed(damaged), Refusal::Stored, 15);
     check(filed(Record { columns: 36, ..RECORD }), Refusal::Stored, 15);
     check(filed(Record { rows: 1, ..RECORD }), Refusal::Stored, 15);
-    check(filed(Record { shift: 56, ..RECORD }), Refusal::Stored, 15);
+    check(filed(Record { shift: 49, ..RECORD }), Refusal::Stored, 15);
     check(filed(Record { n: 105, ..RECORD }), Refusal::Stored, 15);
 }
 
@@ -95,7 +95,7 @@ fn screens_are_made_replaced_and_filed() {
     let filed = |screen: Result<Screen, Refusal>| screen.map(Record::from);
     assert_eq!(filed(screen().with_offset(69)), Ok(Record { g: 69, ..RECORD }));
     assert_eq!(filed(screen().with_subscreens(16)), Ok(Record { k: 16, ..RECORD }));
-    let replaced = Record { n: 105, columns: 105, rows: 1, shift: 28, ..RECORD };
+    let replaced = Record { n: 105, columns: 105, rows: 1, shift: 77, ..RECORD };
     assert_eq!(filed(screen().with_cells(105)), Ok(replaced));
 }
 
@@ -104,7 +104,7 @@ fn screens_are_made_replaced_and_filed() {
 fn every_number_of_a_screen_is_told() {
     let s = screen();
     assert_eq!([s.a(), s.b(), s.n(), s.k(), s.g()], [4, 7, 70, 3, 5]);
-    assert_eq!([s.columns(), s.rows(), s.shift()], [35, 2, 21]);
+    assert_eq!([s.columns(), s.rows(), s.shift()], [35, 2, 14]);
 }
 
 /// Rule 16.8: each refusal of a cellular prediction, with all that come after it.
@@ -141,7 +141,7 @@ fn every_colorant_stands_at_its_number() {
 #[test]
 fn places_bricks_and_counts_are_handed_on() {
     assert_eq!(screen().phase_at(9, 4), Ok(plain::phase_at(PLAIN, 9, 4).phase));
-    assert_eq!(screen().brick(), Brick { columns: 35, rows: 2, shift: 21 });
+    assert_eq!(screen().brick(), Brick { columns: 35, rows: 2, shift: 14 });
     let (mut brick, mut expected) = ([0; 70], [0; 70]);
     assert_eq!(screen().fill_brick(&mut brick), Ok(()));
     plain::fill_brick(PLAIN, &mut expected);

@@ -147,7 +147,7 @@ fn nothing_beside_a_run_is_read() {
 }
 
 /// The record of a screen that is admitted.
-const RECORD: Record = Record { a: 4, b: 7, n: 105, k: 2, g: 0, columns: 105, rows: 1, shift: 28 };
+const RECORD: Record = Record { a: 4, b: 7, n: 105, k: 2, g: 0, columns: 105, rows: 1, shift: 77 };
 
 /// Rule 11.18: lengths about 765, far beyond it, and such as are 765 in 16 or in 32 bits.
 #[test]

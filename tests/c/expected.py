@@ -14,7 +14,7 @@ SCREEN = screen_of(4, 7, 30, 3, 5)
 REFUSED = {
     "slope 4/8": Screen(4, 8, 30, 3, 5, 1, 2, 3), "4097 cells": Screen(4, 7, 4097, 3, 5, 4, 5, 6),
     "17 subscreens": Screen(4, 7, 30, 17, 5, 7, 8, 9), "offset 30": Screen(4, 7, 30, 3, 30, 10, 11, 12),
-    "columns 16": SCREEN._replace(columns=16), "rows 1": SCREEN._replace(rows=1), "shift 26": SCREEN._replace(shift=26),
+    "columns 16": SCREEN._replace(columns=16), "rows 1": SCREEN._replace(rows=1), "shift 19": SCREEN._replace(shift=19),
 }
 REPLACE = {"g": "replace_offset", "k": "replace_subscreens", "n": "replace_cells"}
 WINDOW = 8, 13, 5, 3
@@ -252,22 +252,22 @@ show_cellular("minus zeros", SCREEN, "kueppers", zeros)
 show_cellular("sets 200 and 226 bad", SCREEN, "kueppers", bad)
 show_cellular("separation 256, all else bad", REFUSED["slope 4/8"], "separation 256", bad[:764])
 
-shifted = REFUSED["shift 26"]
-show_replaced("shift 26, no cells", shifted, "n", 0)
-show_replaced("shift 26, 17 subscreens", shifted, "k", 17)
-show_replaced("shift 26, offset 30", shifted, "g", 30)
-show_place("shift 26, beyond the sheet", shifted, y=65536)
-show_filling("shift 26, brick too short", shifted, 29)
-show_separation("shift 26, separation 2", shifted, "separation 2")
-show_cell("shift 26, beyond the sheet", shifted, "kueppers", x=65536)
-show_window("shift 26, beyond the sheet", shifted, "kueppers", (65536, 13, 5, 3))
-show_window("shift 26, input too short", shifted, "kueppers", inputs=44)
-show_window("shift 26, output too long", shifted, "kueppers", outputs=16)
-show_brick_window("shift 26, brick too short", shifted, "kueppers", 29)
-show_colour("shift 26, primaries too short", shifted, "kueppers", PRIMARIES[:23])
-show_colour("shift 26, cyan too dark", shifted, "kueppers", [-1.0] + [0.0] * 23)
-show_cellular("shift 26, records too short", shifted, "kueppers", RECORDS[:764])
-show_cellular("shift 26, set 1 too dark", shifted, "kueppers", changed({(1, 0): -1.0}))
+shifted = REFUSED["shift 19"]
+show_replaced("shift 19, no cells", shifted, "n", 0)
+show_replaced("shift 19, 17 subscreens", shifted, "k", 17)
+show_replaced("shift 19, offset 30", shifted, "g", 30)
+show_place("shift 19, beyond the sheet", shifted, y=65536)
+show_filling("shift 19, brick too short", shifted, 29)
+show_separation("shift 19, separation 2", shifted, "separation 2")
+show_cell("shift 19, beyond the sheet", shifted, "kueppers", x=65536)
+show_window("shift 19, beyond the sheet", shifted, "kueppers", (65536, 13, 5, 3))
+show_window("shift 19, input too short", shifted, "kueppers", inputs=44)
+show_window("shift 19, output too long", shifted, "kueppers", outputs=16)
+show_brick_window("shift 19, brick too short", shifted, "kueppers", 29)
+show_colour("shift 19, primaries too short", shifted, "kueppers", PRIMARIES[:23])
+show_colour("shift 19, cyan too dark", shifted, "kueppers", [-1.0] + [0.0] * 23)
+show_cellular("shift 19, records too short", shifted, "kueppers", RECORDS[:764])
+show_cellular("shift 19, set 1 too dark", shifted, "kueppers", changed({(1, 0): -1.0}))
 
 planes = planes_of(CELLS)
 show_packing("served", CELLS)

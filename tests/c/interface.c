@@ -15,7 +15,7 @@ enum { TALLIES = 16, MOST_TALLIES = 8000, MOST_PRICE = 1000000 };
 enum { VALUES = 24, SETS = 255, RECORDS = 3 * SETS, SHEET = 65536, GUARDS = 2, UNWRITTEN = 170 };
 
 static const cavzemil_screen screen = {
-    .a = 4, .b = 7, .n = N, .k = 3, .g = 5, .columns = 15, .rows = 2, .shift = 11,
+    .a = 4, .b = 7, .n = N, .k = 3, .g = 5, .columns = 15, .rows = 2, .shift = 4,
 };
 /* The last of them stores 26 columns, which lead as far along a row as 11 do. */
 static const struct { const char *call; cavzemil_screen s; } refused[] = {
@@ -23,9 +23,9 @@ static const struct { const char *call; cavzemil_screen s; } refused[] = {
     {"4097 cells", {.a = 4, .b = 7, .n = 4097, .k = 3, .g = 5, .columns = 4, .rows = 5, .shift = 6}},
     {"17 subscreens", {.a = 4, .b = 7, .n = N, .k = 17, .g = 5, .columns = 7, .rows = 8, .shift = 9}},
     {"offset 30", {.a = 4, .b = 7, .n = N, .k = 3, .g = N, .columns = 10, .rows = 11, .shift = 12}},
-    {"columns 16", {.a = 4, .b = 7, .n = N, .k = 3, .g = 5, .columns = 16, .rows = 2, .shift = 11}},
-    {"rows 1", {.a = 4, .b = 7, .n = N, .k = 3, .g = 5, .columns = 15, .rows = 1, .shift = 11}},
-    {"shift 26", {.a = 4, .b = 7, .n = N, .k = 3, .g = 5, .columns = 15, .rows = 2, .shift = 26}},
+    {"columns 16", {.a = 4, .b = 7, .n = N, .k = 3, .g = 5, .columns = 16, .rows = 2, .shift = 4}},
+    {"rows 1", {.a = 4, .b = 7, .n = N, .k = 3, .g = 5, .columns = 15, .rows = 1, .shift = 4}},
+    {"shift 19", {.a = 4, .b = 7, .n = N, .k = 3, .g = 5, .columns = 15, .rows = 2, .shift = 19}},
 };
 static const cavzemil_window window = {.x = X, .y = Y, .columns = WIDE, .rows = HIGH};
 static const struct { uint8_t c, m, y; } tint = {.c = 51, .m = 204, .y = 102};
@@ -355,21 +355,21 @@ static void show_stored(void) {
     const cavzemil_screen shifted = refused[6].s;
     const cavzemil_window beyond = {.x = SHEET, .y = Y, .columns = WIDE, .rows = HIGH};
     const double dark[VALUES] = {-1};
-    show_cells("shift 26, no cells", shifted, 0);
-    show_subscreens("shift 26, 17 subscreens", shifted, 17);
-    show_offset("shift 26, offset 30", shifted, N);
-    show_place("shift 26, beyond the sheet", shifted, X, SHEET);
-    show_filling("shift 26, brick too short", shifted, N - 1);
-    show_separation("shift 26, separation 2", shifted, 2);
-    show_cell("shift 26, beyond the sheet", shifted, CAVZEMIL_KUEPPERS, SHEET, Y);
-    show_window("shift 26, beyond the sheet", shifted, CAVZEMIL_KUEPPERS, beyond, sizeof input, CELLS);
-    show_window("shift 26, input too short", shifted, CAVZEMIL_KUEPPERS, window, sizeof input - 1, CELLS);
-    show_window("shift 26, output too long", shifted, CAVZEMIL_KUEPPERS, window, sizeof input, CELLS + 1);
-    show_brick_window("shift 26, brick too short", shifted, CAVZEMIL_KUEPPERS, N - 1);
-    show_colour("shift 26, primaries too short", shifted, CAVZEMIL_KUEPPERS, primaries, VALUES - 1);
-    show_colour("shift 26, cyan too dark", shifted, CAVZEMIL_KUEPPERS, dark, VALUES);
-    show_cellular("shift 26, records too short", shifted, CAVZEMIL_KUEPPERS, records, RECORDS - 1);
-    show_set("shift 26, set 1 too dark", shifted, 1, 0, -1, RECORDS);
+    show_cells("shift 19, no cells", shifted, 0);
+    show_subscreens("shift 19, 17 subscreens", shifted, 17);
+    show_offset("shift 19, offset 30", shifted, N);
+    show_place("shift 19, beyond the sheet", shifted, X, SHEET);
+    show_filling("shift 19, brick too short", shifted, N - 1);
+    show_separation("shift 19, separation 2", shifted, 2);
+    show_cell("shift 19, beyond the sheet", shifted, CAVZEMIL_KUEPPERS, SHEET, Y);
+    show_window("shift 19, beyond the sheet", shifted, CAVZEMIL_KUEPPERS, beyond, sizeof input, CELLS);
+    show_window("shift 19, input too short", shifted, CAVZEMIL_KUEPPERS, window, sizeof input - 1, CELLS);
+    show_window("shift 19, output too long", shifted, CAVZEMIL_KUEPPERS, window, sizeof input, CELLS + 1);
+    show_brick_window("shift 19, brick too short", shifted, CAVZEMIL_KUEPPERS, N - 1);
+    show_colour("shift 19, primaries too short", shifted, CAVZEMIL_KUEPPERS, primaries, VALUES - 1);
+    show_colour("shift 19, cyan too dark", shifted, CAVZEMIL_KUEPPERS, dark, VALUES);
+    show_cellular("shift 19, records too short", shifted, CAVZEMIL_KUEPPERS, records, RECORDS - 1);
+    show_set("shift 19, set 1 too dark", shifted, 1, 0, -1, RECORDS);
 }
 
 /* Prints plates packed and unpacked, and what refuses them; the last of the cells, an 8, is one too many. */

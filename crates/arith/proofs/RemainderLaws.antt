@@ -82,13 +82,6 @@ remainder-only u v n p l e =
     let q : p % n ≡ remainderOf u v n % n = remainder-minus n p (remainderOf u v n) v pos (e ∙ sym (remainder-words u v n pos)) in
     sym (mod-eq-of-lt l) ∙ q ∙ mod-eq-of-lt (remainder-below u v n pos)
 
--- it is 0 exactly where the two remainders are equal
-pub remainder-none : (u v n : ℕ) → 0 < n → (remainderOf u v n ≡ 0 → u % n ≡ v % n) × (u % n ≡ v % n → remainderOf u v n ≡ 0)
-remainder-none u v n pos = (
-  λ e. sym (remainder-words u v n pos) ∙ ap (λ (r : ℕ). (r + v) % n) e ∙ rw (zero-add v),
-  λ e. sym (remainder-only u v n 0 pos (rw (zero-add v) (sym e))),
-)
-
 -- it may be worked out from the two remainders, with n added before one is taken from the other
 pub remainder-apart : (u v n : ℕ) → 0 < n → (u % n + n - v % n) % n ≡ remainderOf u v n
 remainder-apart u v n pos =
@@ -104,22 +97,3 @@ remainder-on u v n i pos =
     let q : r + i + v ≡ r + v + i = omega arith in
     remainder-only (u + i) v n ((r + i) % n) (mod-lt _ pos)
     (mod-add-mod (r + i) n v ∙ ap (λ (z : ℕ). z % n) q ∙ remainder-plus n (r + v) u i (remainder-words u v n pos))
-
--- two differences that agree when crossed have the same remainder
-pub remainder-same : (u v u′ v′ n : ℕ) → 0 < n → (u + v′) % n ≡ (u′ + v) % n → remainderOf u v n ≡ remainderOf u′ v′ n
-remainder-same u v u′ v′ n pos e =
-    remainder-only u′ v′ n (remainderOf u v n) (remainder-below u v n pos)
-    (remainder-minus n (remainderOf u v n + v′) u′ v pos (shift ∙ remainder-plus n (remainderOf u v n + v) u v′ (remainder-words u v n pos) ∙ e))
-  where
-    shift : (remainderOf u v n + v′ + v) % n ≡ (remainderOf u v n + v + v′) % n
-    shift = ap (λ (w : ℕ). w % n) (omega arith)
-
--- and the other way round
-pub remainder-crossed : (u v u′ v′ n : ℕ) → 0 < n → remainderOf u v n ≡ remainderOf u′ v′ n → (u + v′) % n ≡ (u′ + v) % n
-remainder-crossed u v u′ v′ n pos e =
-    remainder-plus n u (remainderOf u v n + v) v′ (sym (remainder-words u v n pos))
-    ∙ ap (λ (w : ℕ). w % n) swap
-    ∙ remainder-plus n (remainderOf u′ v′ n + v′) u′ v (remainder-words u′ v′ n pos)
-  where
-    swap : remainderOf u v n + v + v′ ≡ remainderOf u′ v′ n + v′ + v
-    swap = omega (arith, e)

@@ -27,4 +27,4 @@ pub record Marks : Type 0 where
   pub falls-law : OrderFalls → 26 ≤ 26
   pub ties-law : OrderFalls → 0 < 1
   -- rule 14.1: the ink bill, cellular prediction, stored numbers, and the bit mask
-  pub in-force : rulesInForce ≡ 4
+  pub in-force : rulesInForce ≡ 5

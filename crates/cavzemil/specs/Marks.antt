@@ -50,8 +50,8 @@ magentaUnset =
     o ∷ o ∷ o ∷ o ∷ nan ∷ o ∷ o ∷ o ∷ o ∷ o ∷ o ∷ o ∷ o ∷ o ∷ o ∷ o ∷ o ∷ o ∷ o ∷ o ∷ o ∷ o ∷ o ∷ o ∷ []
 
 pub record Marks : Type 0 where
-  pub placed : placeLaid (placeOf (screenOf listed) 3 2) ≡ record { refusal = 0; phase = 103 }
-  pub bricked : brickLaid (brickOf (screenOf listed)) ≡ record { refusal = 0; columns = 105; rows = 1; shift = 28 }
+  pub placed : placeLaid (placeOf (screenOf listed) 3 2) ≡ record { refusal = 0; phase = 26 }
+  pub bricked : brickLaid (brickOf (screenOf listed)) ≡ record { refusal = 0; columns = 105; rows = 1; shift = 77 }
   pub sloped-brick : brickLaid (brickOf (screenOf sloped)) ≡ record { refusal = 1; columns = 0; rows = 0; shift = 0 }
   -- rules 17.2 to 17.4: made, replaced, and handed back
   pub made : madeLaid (madeOf 4 7 105 2 0) ≡ record { refusal = 0; screen = listed }

@@ -249,10 +249,10 @@ fn refused(s: Screen, unevens: &[f64], bad: &[f64]) {
 
 // Refusal 15 of each stored number, in the same calls; and 3 before it.
 fn stored(unevens: &[f64], bad: &[f64]) {
-    refused_storing(record_of(4, 7, 105, 2, 0, 106, 1, 28), unevens, bad);
-    refused_storing(record_of(4, 7, 105, 2, 0, 105, 2, 28), unevens, bad);
-    refused_storing(record_of(4, 7, 105, 2, 0, 105, 1, 133), unevens, bad);
-    refused_storing(record_of(4, 7, 105, 17, 0, 105, 1, 133), unevens, bad);
+    refused_storing(record_of(4, 7, 105, 2, 0, 106, 1, 77), unevens, bad);
+    refused_storing(record_of(4, 7, 105, 2, 0, 105, 2, 77), unevens, bad);
+    refused_storing(record_of(4, 7, 105, 2, 0, 105, 1, 182), unevens, bad);
+    refused_storing(record_of(4, 7, 105, 17, 0, 105, 1, 182), unevens, bad);
 }
 
 fn refused_storing(s: Screen, unevens: &[f64], bad: &[f64]) {

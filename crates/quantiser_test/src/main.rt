@@ -146,12 +146,12 @@ fn refused() {
 
 // Refusal 15: each stored number wrong by itself, and all of them; and 3, which comes first.
 fn stored_counts() {
-    show_both_storing(record_of(4, 7, 105, 2, 0, 105, 1, 28));
-    show_both_storing(record_of(4, 7, 105, 2, 0, 104, 1, 28));
-    show_both_storing(record_of(4, 7, 105, 2, 0, 105, 2, 28));
-    show_both_storing(record_of(4, 7, 105, 2, 0, 105, 1, 133));
-    show_both_storing(record_of(4, 7, 105, 2, 0, 35, 2, 21));
-    show_both_storing(record_of(4, 7, 105, 17, 0, 105, 1, 133));
+    show_both_storing(record_of(4, 7, 105, 2, 0, 105, 1, 77));
+    show_both_storing(record_of(4, 7, 105, 2, 0, 104, 1, 77));
+    show_both_storing(record_of(4, 7, 105, 2, 0, 105, 2, 77));
+    show_both_storing(record_of(4, 7, 105, 2, 0, 105, 1, 182));
+    show_both_storing(record_of(4, 7, 105, 2, 0, 35, 2, 14));
+    show_both_storing(record_of(4, 7, 105, 17, 0, 105, 1, 182));
 }
 
 fn show_both_storing(s: Screen) {
@@ -165,7 +165,7 @@ fn untested() {
     show_counted(screen_of(4, 8, 20, 3, 0));
     show_counted(screen_of(4, 7, 0, 2, 0));
     show_counted(screen_of(4, 7, 4294967295, 2, 0));
-    let false_shift = record_of(4, 7, 105, 2, 0, 105, 1, 133);
+    let false_shift = record_of(4, 7, 105, 2, 0, 105, 1, 182);
     show_stored(false_shift);
     show_counted(false_shift);
 }
@@ -202,10 +202,10 @@ fn tables() {
 
 // Refusal 15 before 8, and 4 before it.
 fn stored_tables() {
-    show_table_storing(record_of(4, 7, 20, 3, 0, 5, 4, 2), 20);
-    show_table_storing(record_of(4, 7, 20, 3, 0, 5, 4, 7), 20);
-    show_table_storing(record_of(4, 7, 20, 3, 0, 5, 4, 7), 19);
-    show_table_storing(record_of(4, 7, 20, 3, 20, 5, 4, 7), 19);
+    show_table_storing(record_of(4, 7, 20, 3, 0, 5, 4, 3), 20);
+    show_table_storing(record_of(4, 7, 20, 3, 0, 5, 4, 8), 20);
+    show_table_storing(record_of(4, 7, 20, 3, 0, 5, 4, 8), 19);
+    show_table_storing(record_of(4, 7, 20, 3, 20, 5, 4, 8), 19);
 }
 
 fn show_table_storing(s: Screen, places: usize) {
@@ -221,7 +221,7 @@ fn lone_thresholds() {
     show_lone(screen_of(4, 7, 16, 16, 0));
     show_lone(screen_of(1, 2, 1, 1, 0));
     show_lone(screen_of(4, 8, 20, 3, 0));
-    let false_shift = record_of(4, 7, 20, 3, 0, 5, 4, 7);
+    let false_shift = record_of(4, 7, 20, 3, 0, 5, 4, 8);
     show_stored(false_shift);
     show_lone(false_shift);
 }

@@ -16,12 +16,12 @@ use Rattle.render.specs.Finished.{Counted, bytesInSubscreen}
 
 -- A screen of four phases in two subscreens, a brick of 4 by 1, and a tint: phases 0, 2 and 3 are cyan, phase 1 is white.
 abbrev pub four : Screen
-four = screenOf 1 2 4 2 0
+four = screenOf 1 3 4 2 0
 
 abbrev pub tint : Inks
 tint = inksOf 200 0 0
 
--- so many columns from (1, 1) on, where the phases are 3, 0, 1, 2, 3; and four pixels of the tint
+-- so many columns from (1, 1) on, where the phases are 0, 1, 2, 3, 0; and four pixels of the tint
 abbrev pub along : ℕ → Window
 along columns = record { x = 1; y = 1; columns = columns; rows = 1 }
 
@@ -39,15 +39,15 @@ abbrev pub wrong : List ℕ
 wrong = 0 ∷ 1 ∷ 2 ∷ 0 ∷ []
 
 pub record Marks : Type 0 where
-  pub written : rendered four Kueppers (along 4) input memory ≡ 0 ∷ 0 ∷ 7 ∷ 0 ∷ []
+  pub written : rendered four Kueppers (along 4) input memory ≡ 0 ∷ 7 ∷ 0 ∷ 0 ∷ []
   pub answer : rendering four Kueppers (along 4) input memory ≡ record { refusal = 0; tallies = 3 ∷ 0 ∷ 0 ∷ 0 ∷ 0 ∷ 0 ∷ 0 ∷ 1 ∷ [] }
-  pub tallied : talliesOf (0 ∷ 0 ∷ 7 ∷ 0 ∷ []) ≡ 3 ∷ 0 ∷ 0 ∷ 0 ∷ 0 ∷ 0 ∷ 0 ∷ 1 ∷ []
+  pub tallied : talliesOf (0 ∷ 7 ∷ 0 ∷ 0 ∷ []) ≡ 3 ∷ 0 ∷ 0 ∷ 0 ∷ 0 ∷ 0 ∷ 0 ∷ 1 ∷ []
   -- a wrong brick is refused as 8, eight zeros are answered and nothing is written; a true one is not refused
-  pub read : brickRendered four Kueppers (along 4) input brick memory ≡ 0 ∷ 0 ∷ 7 ∷ 0 ∷ []
+  pub read : brickRendered four Kueppers (along 4) input brick memory ≡ 0 ∷ 7 ∷ 0 ∷ 0 ∷ []
   pub refused : brickRendering four Kueppers (along 4) input wrong memory ≡ record { refusal = 8; tallies = zeros 8 }
   pub untouched : brickRendered four Kueppers (along 4) input wrong memory ≡ memory
   -- also for a window without cells
   pub empty-8 : brickRefusal four (along 0) 0 0 [] ≡ 8
   -- in 2 by 1 bricks, twice the count of 3; and in the brick that begins at the second of five columns, both cells of subscreen 1
   pub counted : Counted four Kueppers tint 2 1 (6 ∷ 0 ∷ 0 ∷ 0 ∷ 0 ∷ 0 ∷ 0 ∷ 2 ∷ []) 0
-  pub in-subscreen : bytesInSubscreen four (along 5) (0 ∷ 0 ∷ 7 ∷ 0 ∷ 0 ∷ []) 1 0 1 0 ≡ 2
+  pub in-subscreen : bytesInSubscreen four (along 5) (0 ∷ 7 ∷ 0 ∷ 0 ∷ 0 ∷ []) 1 0 1 0 ≡ 2

@@ -213,12 +213,12 @@ fn lone_places() {
 fn stored_windows() {
     let on = window_of(8, 9, 3, 2);
     let lent = lent_for(on);
-    show_storing(record_of(4, 7, 70, 2, 5, 35, 2, 21), on, lent);
-    show_storing(record_of(4, 7, 70, 2, 5, 36, 2, 21), on, lent);
-    show_storing(record_of(4, 7, 70, 2, 5, 35, 1, 21), on, lent);
-    show_storing(record_of(4, 7, 70, 2, 5, 35, 2, 56), on, lent);
-    show_storing(record_of(4, 7, 70, 2, 70, 35, 2, 56), on, lent);
-    let shifted = record_of(4, 7, 70, 2, 5, 35, 2, 56);
+    show_storing(record_of(4, 7, 70, 2, 5, 35, 2, 14), on, lent);
+    show_storing(record_of(4, 7, 70, 2, 5, 36, 2, 14), on, lent);
+    show_storing(record_of(4, 7, 70, 2, 5, 35, 1, 14), on, lent);
+    show_storing(record_of(4, 7, 70, 2, 5, 35, 2, 49), on, lent);
+    show_storing(record_of(4, 7, 70, 2, 70, 35, 2, 49), on, lent);
+    let shifted = record_of(4, 7, 70, 2, 5, 35, 2, 49);
     show_storing(shifted, on, lent_of(17, 6, 70, 106));
     show_storing(shifted, on, lent_of(18, 5, 70, 106));
     show_storing(shifted, on, lent_of(18, 6, 69, 106));
@@ -232,10 +232,10 @@ fn show_storing(s: Screen, w: Window, lent: Lent) {
 
 // Refusal 15 before 5, and 4 before it.
 fn stored_places() {
-    show_cell_storing(record_of(4, 7, 105, 2, 0, 105, 1, 28), 3, 2);
-    show_cell_storing(record_of(4, 7, 105, 2, 0, 105, 1, 27), 3, 2);
-    show_cell_storing(record_of(4, 7, 105, 2, 0, 105, 1, 27), 65536, 0);
-    show_cell_storing(record_of(4, 7, 105, 2, 105, 105, 1, 27), 65536, 0);
+    show_cell_storing(record_of(4, 7, 105, 2, 0, 105, 1, 77), 3, 2);
+    show_cell_storing(record_of(4, 7, 105, 2, 0, 105, 1, 76), 3, 2);
+    show_cell_storing(record_of(4, 7, 105, 2, 0, 105, 1, 76), 65536, 0);
+    show_cell_storing(record_of(4, 7, 105, 2, 105, 105, 1, 76), 65536, 0);
 }
 
 fn show_cell_storing(s: Screen, x: u32, y: u32) {

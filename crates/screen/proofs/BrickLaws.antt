@@ -3,7 +3,7 @@
 use Prim.Native.Nat.{ℕ, zero, suc, _+_, _-_, _*_, _/_, _%_, _≤_, _<_, _∣_}
 use mathlib.Core.Path.{_≡_, sym, ap, ap₂, _∙_}
 use mathlib.Core.Bool.{Bool}
-use native.Mathlib.Nat.{dvd-antisymm, dvd-of-mod-eq-zero, mod-eq-zero-of-dvd, pos-of-ne-zero, le-of-dvd, lt-of-lt-of-le, div-le-self, mul-zero, mul-suc, mul-comm, mul-sub, add-zero, add-assoc, one-mul, mod-lt, mod-eq-of-lt, mod-mod-of-dvd, mod-add-div, div-add-mod', div-lt-iff-lt-mul, mul-div-cancel', dvd-mul-right, dvd-mul-right-of-dvd, dvd-of-mul-dvd-mul-left, add-mul-mod-self-left}
+use native.Mathlib.Nat.{dvd-antisymm, dvd-of-mod-eq-zero, pos-of-ne-zero, le-of-dvd, lt-of-lt-of-le, div-le-self, mul-zero, mul-suc, mul-sub, add-zero, add-assoc, one-mul, zero-mod, mod-lt, mod-eq-of-lt, add-mod-mod, mod-mod-of-dvd, mod-add-div, div-add-mod', div-lt-iff-lt-mul, mul-div-cancel', dvd-mul-right, dvd-mul-right-of-dvd, dvd-of-mul-dvd-mul-left, add-mul-mod-self-left}
 use native.Mathlib.Omega.{arith}
 use lib.Dec.{eqb}
 use borrow.Author.Tests.{eq-eqb, eqb-true}
@@ -12,13 +12,13 @@ use Rattle.arith.specs.Remainder.{remainderOf}
 use Rattle.arith.specs.First.{firstBelow}
 use Rattle.arith.specs.Sum.{sumBelow, indicator}
 use Rattle.arith.proofs.GcdLaws.{gcd-divides, gcd-scaled, gcd-greatest, gcd-pos, gcd-reduced}
-use Rattle.arith.proofs.RemainderLaws.{same-remainder, below-divisor, remainder-plus, remainder-minus, remainder-multiple, remainder-scaled, remainder-words, remainder-same, remainder-crossed}
+use Rattle.arith.proofs.RemainderLaws.{same-remainder, below-divisor, remainder-minus, remainder-multiple, remainder-scaled, remainder-words}
 use Rattle.arith.proofs.SumLaws.{sum-same, sum-places, sum-window, each-once}
 use Rattle.arith.proofs.Residues.{residue-once}
 use Rattle.arith.proofs.FirstLaws.{first-found, first-counted, first-passes}
 use Rattle.screen.specs.Phase.{phaseOf}
 use Rattle.screen.specs.Sizes.{rowsOf, columnsOf, shiftOf}
-use Rattle.screen.proofs.PhaseLaws.{phase-below, steps-right}
+use Rattle.screen.proofs.PhaseLaws.{phase-below, phase-same, steps, steps-right}
 
 -- ---- size
 
@@ -61,50 +61,50 @@ module _ (a n : ℕ) (pos : 0 < n) where
 
 -- the test that S passes
 abbrev matches : ℕ → ℕ → ℕ → ℕ → Bool
-matches a b n t = eqb (a * t % n) (b * rowsOf a n % n)
+matches a b n t = eqb ((a * t + b * rowsOf a n) % n) 0
 
 module _ (a b n : ℕ) (pos : 0 < n) where
-  -- some column passes: by L, the multiples of a / H meet each remainder, that of b among them
+  -- some column passes: by L, the multiples of a / H with b added meet each remainder, 0 among them
   pub shift-below : shiftOf a b n < columnsOf a n
   unfolding shiftOf
   shift-below =
       let h : ℕ = rowsOf a n in
       let l : ℕ = columnsOf a n in
-      let once = residue-once (a / h) l 0 (gcd-reduced a n pos) (columns-pos a n pos) (b % l) (mod-lt b (columns-pos a n pos)) in
-      let small : ℕ = firstBelow l (λ i. eqb ((a / h * i + 0) % l) (b % l)) in
+      let once = residue-once (a / h) l b (gcd-reduced a n pos) (columns-pos a n pos) 0 (columns-pos a n pos) in
+      let small : ℕ = firstBelow l (λ i. eqb ((a / h * i + b) % l) 0) in
       let found : small < l = first-counted l _ (omega (arith, once)) in
       first-found l (matches a b n) small found (eq-eqb _ _ (lifted small (eqb-true _ _ (first-passes l _ found))))
     where
-      lifted : (t : ℕ) → (a / rowsOf a n * t + 0) % columnsOf a n ≡ b % columnsOf a n → a * t % n ≡ b * rowsOf a n % n
+      lifted : (t : ℕ) → (a / rowsOf a n * t + b) % columnsOf a n ≡ 0 → (a * t + b * rowsOf a n) % n ≡ 0
       lifted t e =
           let h : ℕ = rowsOf a n in
+          let l : ℕ = columnsOf a n in
           let reduced : h * (a / h) ≡ a = mul-div-cancel' h (gcd-divides a n .0) in
-          let q : h * (a / h * t + 0) ≡ a * t = omega (arith, ap (λ (z : ℕ). z * t) reduced) in
-          rw (q, brick-size a n pos, mul-comm h b) at (remainder-scaled h (columnsOf a n) (a / h * t + 0) b e)
+          let q : h * (a / h * t + b) ≡ a * t + b * h = omega (arith, ap (λ (z : ℕ). z * t) reduced) in
+          rw (q, brick-size a n pos, mul-zero, zero-mod) at (remainder-scaled h l (a / h * t + b) 0 (e ∙ sym (zero-mod l)))
 
   pub shift-limit : shiftOf a b n < n
   shift-limit = lt-of-lt-of-le shift-below (div-le-self n (rowsOf a n))
 
-  pub shift-words : a * shiftOf a b n % n ≡ b * rowsOf a n % n
+  pub shift-words : (a * shiftOf a b n + b * rowsOf a n) % n ≡ 0
   unfolding shiftOf
   shift-words = eqb-true _ _ (first-passes (columnsOf a n) (matches a b n) shift-below)
 
-  pub shift-only : (t : ℕ) → t < columnsOf a n → a * t % n ≡ b * rowsOf a n % n → t ≡ shiftOf a b n
-  shift-only t l e = column-only a n pos t (shiftOf a b n) l shift-below (e ∙ sym shift-words)
+  pub shift-only : (t : ℕ) → t < columnsOf a n → (a * t + b * rowsOf a n) % n ≡ 0 → t ≡ shiftOf a b n
+  shift-only t l e = column-only a n pos t (shiftOf a b n) l shift-below (remainder-minus n _ _ (b * rowsOf a n) pos (e ∙ sym shift-words))
 
 -- ---- size and shift, told without working them out
 
 -- Rows that divide a and n, with a shift that fits their equation, are H: what divides a and n divides b times the rows by that
 -- equation, and has no divisor above 1 in common with b.
-pub rows-only : (a b n h l t : ℕ) → gcdOf a b ≡ 1 → h ∣ a → h * l ≡ n → a * t % n ≡ b * h % n → h ≡ rowsOf a n
+pub rows-only : (a b n h l t : ℕ) → gcdOf a b ≡ 1 → h ∣ a → h * l ≡ n → (a * t + b * h) % n ≡ 0 → h ≡ rowsOf a n
 rows-only a b n h l t unit h∣a whole e =
     let d : ℕ = rowsOf a n in
     let d∣a : d ∣ a = gcd-divides a n .0 in
     let d∣n : d ∣ n = gcd-divides a n .1 in
     let h∣n : h ∣ n = rw whole at (dvd-mul-right h l) in
-    let left : a * t % d ≡ 0 = mod-eq-zero-of-dvd d (dvd-mul-right-of-dvd d d∣a t) in
-    let right : b * h % d ≡ 0 = sym (mod-mod-of-dvd d (b * h) d∣n) ∙ ap (λ (z : ℕ). z % d) (sym e) ∙ mod-mod-of-dvd d (a * t) d∣n ∙ left in
-    let d∣h : d ∣ h = rw (unit, one-mul) at (gcd-scaled d h a b (dvd-mul-right-of-dvd d d∣a h) (dvd-of-mod-eq-zero d right)) in
+    let down : b * h % d ≡ 0 = sym (remainder-multiple d (a * t) (b * h) (dvd-mul-right-of-dvd d d∣a t)) ∙ sym (mod-mod-of-dvd d (a * t + b * h) d∣n) ∙ ap (λ (z : ℕ). z % d) e ∙ zero-mod d in
+    let d∣h : d ∣ h = rw (unit, one-mul) at (gcd-scaled d h a b (dvd-mul-right-of-dvd d d∣a h) (dvd-of-mod-eq-zero d down)) in
     dvd-antisymm (gcd-greatest h a n h∣a h∣n) d∣h
 
 -- ---- places with the same phase
@@ -127,14 +127,11 @@ module _ (a b n g : ℕ) (pos : 0 < n) where
 
   -- a brick's height down and S to the right
   pub shifted : (x y : ℕ) → phaseOf a b n g (x + shiftOf a b n) (y + rowsOf a n) ≡ phaseOf a b n g x y
-  unfolding phaseOf
   shifted x y =
-      let t : ℕ = shiftOf a b n in
-      let h : ℕ = rowsOf a n in
-      let left : a * (x + t) + (b * y + g) ≡ a * t + (a * x + (b * y + g)) = omega arith in
-      let right : a * x + (b * (y + h) + g) ≡ b * h + (a * x + (b * y + g)) = omega arith in
-      remainder-same (a * (x + t)) (b * (y + h) + g) (a * x) (b * y + g) n pos
-      (ap (λ (z : ℕ). z % n) left ∙ remainder-plus n (a * t) (b * h) (a * x + (b * y + g)) (shift-words a b n pos) ∙ ap (λ (z : ℕ). z % n) (sym right))
+      let p : ℕ = phaseOf a b n g x y in
+      steps a b n g pos x y (shiftOf a b n) (rowsOf a n)
+      ∙ sym (add-mod-mod p (a * shiftOf a b n + b * rowsOf a n) n)
+      ∙ rw (shift-words a b n pos, add-zero) (mod-eq-of-lt (phase-below a b n g pos x y))
 
   shifted-times : (x y q : ℕ) → phaseOf a b n g (x + shiftOf a b n * q) (y + rowsOf a n * q) ≡ phaseOf a b n g x y
   shifted-times x y zero = rw (mul-zero, mul-zero, add-zero, add-zero)
@@ -156,17 +153,13 @@ module _ (a b n g : ℕ) (pos : 0 < n) where
 module _ (a b n g : ℕ) (unit : gcdOf a b ≡ 1) (pos : 0 < n) where
   -- rows of two places with one phase differ by a multiple of H, since H divides a and n and has no divisor above 1 in common with b
   rows-apart : (x y x′ y′ : ℕ) → phaseOf a b n g x y ≡ phaseOf a b n g x′ y′ → rowsOf a n ∣ y - y′
-  unfolding phaseOf
   rows-apart x y x′ y′ e =
       let h : ℕ = rowsOf a n in
       let h∣a : h ∣ a = gcd-divides a n .0 in
       let h∣n : h ∣ n = gcd-divides a n .1 in
-      let v : ℕ = b * y + g in
-      let v′ : ℕ = b * y′ + g in
-      let by-h : (a * x + v′) % h ≡ (a * x′ + v) % h = sym (mod-mod-of-dvd h (a * x + v′) h∣n) ∙ ap (λ (z : ℕ). z % h) (remainder-crossed (a * x) v (a * x′) v′ n pos e) ∙ mod-mod-of-dvd h (a * x′ + v) h∣n in
-      let bare : v′ % h ≡ v % h = sym (remainder-multiple h (a * x) v′ (dvd-mul-right-of-dvd h h∣a x)) ∙ by-h ∙ remainder-multiple h (a * x′) v (dvd-mul-right-of-dvd h h∣a x′) in
-      let d : v - v′ ≡ b * (y - y′) = rw mul-sub (omega arith) in
-      rw (unit, one-mul) at (gcd-scaled h (y - y′) a b (dvd-mul-right-of-dvd h h∣a (y - y′)) (rw d at (same-remainder h v′ v bare)))
+      let by-h : (a * x′ + b * y′) % h ≡ (a * x + b * y) % h = sym (mod-mod-of-dvd h (a * x′ + b * y′) h∣n) ∙ ap (λ (z : ℕ). z % h) (sym (phase-same a b n g pos x y x′ y′ e)) ∙ mod-mod-of-dvd h (a * x + b * y) h∣n in
+      let bare : b * y′ % h ≡ b * y % h = sym (remainder-multiple h (a * x′) (b * y′) (dvd-mul-right-of-dvd h h∣a x′)) ∙ by-h ∙ remainder-multiple h (a * x) (b * y) (dvd-mul-right-of-dvd h h∣a x) in
+      rw (unit, one-mul) at (gcd-scaled h (y - y′) a b (dvd-mul-right-of-dvd h h∣a (y - y′)) (rw mul-sub (same-remainder h (b * y′) (b * y) bare)))
 
   module _ (x y : ℕ) where
     -- the phase of the brick's place k, rows after each other
@@ -187,14 +180,14 @@ module _ (a b n g : ℕ) (unit : gcdOf a b ≡ 1) (pos : 0 < n) where
             below-divisor (rw d at (rows-apart _ _ _ _ e)) (omega arith)
 
     column-same : (i j : ℕ) → i / columnsOf a n ≡ j / columnsOf a n → at i ≡ at j → i % columnsOf a n ≡ j % columnsOf a n
-    unfolding at phaseOf
+    unfolding at
     column-same i j q e =
         let u : ℕ = i % columnsOf a n in
         let u′ : ℕ = j % columnsOf a n in
-        let v : ℕ = b * (y + i / columnsOf a n) + g in
-        let level : (a * (x + u) + v) % n ≡ (a * (x + u′) + v) % n = remainder-crossed (a * (x + u)) v (a * (x + u′)) v n pos (e ∙ ap (λ (z : ℕ). remainderOf (a * (x + u′)) (b * (y + z) + g) n) (sym q)) in
-        let bare : (a * u + a * x) % n ≡ (a * u′ + a * x) % n = ap (λ (z : ℕ). z % n) (omega arith) ∙ remainder-minus n (a * (x + u)) (a * (x + u′)) v pos level ∙ ap (λ (z : ℕ). z % n) (omega arith) in
-        column-only a n pos u u′ (mod-lt i (columns-pos a n pos)) (mod-lt j (columns-pos a n pos)) (remainder-minus n (a * u) (a * u′) (a * x) pos bare)
+        let v : ℕ = y + i / columnsOf a n in
+        let level : (a * (x + u) + b * v) % n ≡ (a * (x + u′) + b * v) % n = phase-same a b n g pos (x + u) v (x + u′) v (e ∙ ap (λ (z : ℕ). phaseOf a b n g (x + u′) (y + z)) (sym q)) in
+        let bare : (a * u + (a * x + b * v)) % n ≡ (a * u′ + (a * x + b * v)) % n = ap (λ (z : ℕ). z % n) (omega arith) ∙ level ∙ ap (λ (z : ℕ). z % n) (omega arith) in
+        column-only a n pos u u′ (mod-lt i (columns-pos a n pos)) (mod-lt j (columns-pos a n pos)) (remainder-minus n (a * u) (a * u′) (a * x + b * v) pos bare)
 
     at-apart : (i j : ℕ) → i < n → j < n → at i ≡ at j → i ≡ j
     at-apart i j k l e =

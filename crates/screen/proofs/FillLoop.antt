@@ -3,7 +3,7 @@
 use Prim.Native.Nat.{ℕ, _+_, _-_, _*_, _/_, _%_, _≤_, _<_}
 use mathlib.Core.Path.{_≡_, refl, sym, ap, ap₂, _∙_}
 use mathlib.Core.List.{List, _++_}
-use native.Mathlib.Nat.{le-antisymm, mul-zero, zero-add, zero-mod, zero-div, mod-lt, mod-self, mod-add-mod, div-add-mod'}
+use native.Mathlib.Nat.{le-antisymm, mul-zero, zero-add, zero-mod, zero-div, mod-lt, div-add-mod'}
 use native.Mathlib.Omega.{arith}
 use lib.ListN.{length, set, drop}
 use lib.Arith.{digits-div, digits-mod}
@@ -12,7 +12,7 @@ use Rattle.arith.proofs.RunLaws.{upto-store, upto-over}
 use Rattle.screen.specs.Phase.{phaseOf}
 use Rattle.screen.specs.Sizes.{columnsOf}
 use Rattle.screen.specs.Brick.{phaseAtPlace}
-use Rattle.screen.proofs.PhaseLaws.{phase-below, phase-only, step-right, step-down}
+use Rattle.screen.proofs.PhaseLaws.{phase-below, phase-carried, step-right, step-down}
 use Rattle.screen.proofs.BrickLaws.{columns-pos, period-times}
 
 pub record FillAt (a b n g : ℕ) (buffer₀ buffer : List ℕ) (phase column i : ℕ) : Type 0 where
@@ -24,10 +24,7 @@ pub record FillAt (a b n g : ℕ) (buffer₀ buffer : List ℕ) (phase column i 
 module _ (a b n g : ℕ) (pos : 0 < n) where
   -- the phase of the sheet's corner is what g leaves to n
   corner : g < n → (n - g) % n ≡ phaseOf a b n g 0 0
-  corner l =
-      let round : n - g + (b * 0 + g) ≡ n = omega arith in
-      phase-only a b n g pos 0 0 ((n - g) % n) (mod-lt (n - g) pos)
-      (mod-add-mod (n - g) n (b * 0 + g) ∙ ap (λ (z : ℕ). z % n) round ∙ mod-self n ∙ sym (rw mul-zero (zero-mod n)))
+  corner l = rw (mul-zero, mul-zero, zero-mod, zero-add) at (phase-carried a b n g pos 0 0 (n - g) (omega arith))
 
   pub fill-start : (buffer : List ℕ) (phase : ℕ) → g < n → phase ≡ (0 + (n - g)) % n → FillAt a b n g buffer buffer phase 0 0
   unfolding upto
@@ -80,7 +77,7 @@ module _ {a b n g : ℕ} {buffer₀ buffer : List ℕ} {phase column i : ℕ} (p
       }
 
   -- at a row's end
-  pub fill-down : (next last : ℕ) → n ≤ length buffer₀ → i < n → next ≡ (phase + a % n) % n → column + 1 ≡ columnsOf a n → last ≡ (next + (n - b % n)) % n
+  pub fill-down : (next last : ℕ) → n ≤ length buffer₀ → i < n → next ≡ (phase + a % n) % n → column + 1 ≡ columnsOf a n → last ≡ (next + b % n) % n
       → FillAt a b n g buffer₀ (set buffer i phase) last 0 (i + 1)
   fill-down next last room l e h q =
       let v : ℕ = i / columnsOf a n in
@@ -92,7 +89,7 @@ module _ {a b n g : ℕ} {buffer₀ buffer : List ℕ} {phase column i : ℕ} (p
         within = omega arith;
         cells = stored room l;
         column-is = sym across;
-        phase-is = q ∙ ap (λ (p : ℕ). (p + (n - b % n)) % n) round ∙ sym (step-down a b n g pos 0 v) ∙ sym (ap₂ (λ (c r : ℕ). phaseOf a b n g c r) across down);
+        phase-is = q ∙ ap (λ (p : ℕ). (p + b % n) % n) round ∙ sym (step-down a b n g pos 0 v) ∙ sym (ap₂ (λ (c r : ℕ). phaseOf a b n g c r) across down);
       }
 
   pub fill-end : n ≤ i → buffer ≡ upto (λ k. phaseAtPlace a b n g k) n ++ drop n buffer₀

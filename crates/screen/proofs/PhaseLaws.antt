@@ -1,60 +1,59 @@
--- The phase of neighbouring places, over plain numbers: a phase is the one number below n with the wanted remainder,
--- so each law is an equation of remainders.
+-- The phase of a place and of those that steps lead to, over plain numbers.
 -- Assumes nothing.
-use Prim.Native.Nat.{ℕ, _+_, _-_, _*_, _/_, _%_, _<_}
+use Prim.Native.Nat.{ℕ, _+_, _*_, _%_, _<_}
 use mathlib.Core.Path.{_≡_, sym, ap, _∙_}
-use native.Mathlib.Nat.{mul-add, mul-one, mod-lt, mod-add-mod, add-mod-mod, add-mul-mod-self-left, div-add-mod}
+use native.Mathlib.Nat.{mul-zero, mul-one, mul-comm, zero-add, add-zero, mod-lt, mod-mod, mod-add-mod, add-mod-mod, add-mul-mod-self-left}
 use native.Mathlib.Omega.{arith}
-use Rattle.arith.proofs.RemainderLaws.{remainder-below, remainder-words, remainder-only, remainder-plus}
+use Rattle.arith.specs.Remainder.{remainderOf}
+use Rattle.arith.proofs.RemainderLaws.{remainder-below, remainder-words, remainder-only, remainder-on}
 use Rattle.screen.specs.Phase.{phaseOf}
 
 module _ (a b n g : ℕ) (pos : 0 < n) where
   pub phase-below : (x y : ℕ) → phaseOf a b n g x y < n
   unfolding phaseOf
-  phase-below x y = remainder-below (a * x) (b * y + g) n pos
+  phase-below x y = remainder-below (a * x + b * y) g n pos
 
-  pub phase-words : (x y : ℕ) → (phaseOf a b n g x y + (b * y + g)) % n ≡ a * x % n
+  pub phase-words : (x y : ℕ) → (phaseOf a b n g x y + g) % n ≡ (a * x + b * y) % n
   unfolding phaseOf
-  phase-words x y = remainder-words (a * x) (b * y + g) n pos
+  phase-words x y = remainder-words (a * x + b * y) g n pos
 
-  pub phase-only : (x y p : ℕ) → p < n → (p + (b * y + g)) % n ≡ a * x % n → p ≡ phaseOf a b n g x y
+  pub phase-only : (x y p : ℕ) → p < n → (p + g) % n ≡ (a * x + b * y) % n → p ≡ phaseOf a b n g x y
   unfolding phaseOf
-  phase-only x y p l e = remainder-only (a * x) (b * y + g) n p l e
+  phase-only x y p l e = remainder-only (a * x + b * y) g n p l e
 
-  -- j columns on
+  -- it may be carried from the remainder of a * x + b * y by what g lacks to n
+  pub phase-carried : (x y lacking : ℕ) → lacking + g ≡ n → ((a * x + b * y) % n + lacking) % n ≡ phaseOf a b n g x y
+  phase-carried x y lacking e =
+      let r : ℕ = (a * x + b * y) % n in
+      let q : r + lacking + g ≡ r + n * 1 = omega (arith, e) in
+      phase-only x y ((r + lacking) % n) (mod-lt _ pos)
+      (mod-add-mod (r + lacking) n g ∙ ap (λ (z : ℕ). z % n) q ∙ add-mul-mod-self-left r n 1 ∙ mod-mod (a * x + b * y) n)
+
+  -- places of one phase have one remainder of a * x + b * y
+  pub phase-same : (x y x′ y′ : ℕ) → phaseOf a b n g x y ≡ phaseOf a b n g x′ y′ → (a * x + b * y) % n ≡ (a * x′ + b * y′) % n
+  phase-same x y x′ y′ e = sym (phase-words x y) ∙ ap (λ (p : ℕ). (p + g) % n) e ∙ phase-words x′ y′
+
+  -- i columns on and j rows down
+  pub steps : (x y i j : ℕ) → phaseOf a b n g (x + i) (y + j) ≡ (phaseOf a b n g x y + (a * i + b * j)) % n
+  unfolding phaseOf
+  steps x y i j =
+      let q : a * (x + i) + b * (y + j) ≡ a * x + b * y + (a * i + b * j) = omega arith in
+      ap (λ (z : ℕ). remainderOf z g n) q ∙ sym (remainder-on (a * x + b * y) g n (a * i + b * j) pos)
+
+  -- along a row alone, and down a column alone
   pub steps-right : (x y j : ℕ) → phaseOf a b n g (x + j) y ≡ (phaseOf a b n g x y + a * j) % n
-  steps-right x y j =
-      let p : ℕ = phaseOf a b n g x y in
-      let v : ℕ = b * y + g in
-      let q : p + a * j + v ≡ p + v + a * j = omega arith in
-      sym
-      (phase-only (x + j) y ((p + a * j) % n) (mod-lt _ pos)
-      (mod-add-mod (p + a * j) n v
-      ∙ ap (λ (z : ℕ). z % n) q
-      ∙ remainder-plus n (p + v) (a * x) (a * j) (phase-words x y)
-      ∙ ap (λ (z : ℕ). z % n) (sym (mul-add a x j))))
+  steps-right x y j = rw (add-zero, mul-zero, add-zero) at (steps x y j 0)
 
-  -- one column on, by the remainder of a
+  pub steps-down : (x y j : ℕ) → phaseOf a b n g x (y + j) ≡ (phaseOf a b n g x y + b * j) % n
+  steps-down x y j = rw (add-zero, mul-zero, zero-add) at (steps x y 0 j)
+
+  -- b columns on are as far as a rows down
+  pub rising : (x y : ℕ) → phaseOf a b n g (x + b) y ≡ phaseOf a b n g x (y + a)
+  rising x y = rw (steps-right x y b, steps-down x y a, mul-comm a b)
+
+  -- one step, by the remainder of a or of b
   pub step-right : (x y : ℕ) → phaseOf a b n g (x + 1) y ≡ (phaseOf a b n g x y + a % n) % n
   step-right x y = steps-right x y 1 ∙ rw mul-one (sym (add-mod-mod (phaseOf a b n g x y) a n))
 
-  -- one row down, by what the remainder of b leaves to n
-  pub step-down : (x y : ℕ) → phaseOf a b n g x (y + 1) ≡ (phaseOf a b n g x y + (n - b % n)) % n
-  step-down x y =
-      let p : ℕ = phaseOf a b n g x y in
-      let l : b % n < n = mod-lt b pos in
-      let q : p + (n - b % n) + (b * (y + 1) + g) ≡ p + (b * y + g) + n * (b / n + 1) = rw (mul-add b y 1, mul-add n (b / n) 1) (omega (arith, div-add-mod b n)) in
-      sym
-      (phase-only x (y + 1) ((p + (n - b % n)) % n) (mod-lt _ pos)
-      (mod-add-mod (p + (n - b % n)) n (b * (y + 1) + g)
-      ∙ ap (λ (z : ℕ). z % n) q
-      ∙ add-mul-mod-self-left (p + (b * y + g)) n (b / n + 1)
-      ∙ phase-words x y))
-
-  -- which is to subtract b
-  pub row-back : (x y : ℕ) → (phaseOf a b n g x (y + 1) + b) % n ≡ phaseOf a b n g x y
-  row-back x y =
-      let p : ℕ = phaseOf a b n g x (y + 1) in
-      let q : p + b + (b * y + g) ≡ p + (b * (y + 1) + g) = rw (mul-add b y 1) (omega arith) in
-      phase-only x y ((p + b) % n) (mod-lt _ pos)
-      (mod-add-mod (p + b) n (b * y + g) ∙ ap (λ (z : ℕ). z % n) q ∙ phase-words x (y + 1))
+  pub step-down : (x y : ℕ) → phaseOf a b n g x (y + 1) ≡ (phaseOf a b n g x y + b % n) % n
+  step-down x y = steps-down x y 1 ∙ rw mul-one (sym (add-mod-mod (phaseOf a b n g x y) b n))

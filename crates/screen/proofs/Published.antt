@@ -14,7 +14,7 @@ use Rattle.screen.specs.Screens.{Admitted, Limits}
 use Rattle.screen.specs.Phase.{phase}
 use Rattle.screen.specs.Brick.{rows, columns, shift, brickPhases, brickPlace, filled}
 use Rattle.screen.specs.Made.{madeOf}
-use Rattle.screen.specs.Laws.{AdmittedWords, PhaseBelow, PhaseWords, PhaseOnly, StepsRight, StepRight, StepDown, PlaceOnSheet, PlaceAnswered, BrickSize, PeriodRight, ShiftWords, ShiftOnly, ShiftLaw, BrickAnswered, FilledIsTrue, ReadFromBrick, BufferRefused, times, EachPhaseOnce, EachPhaseTimes, MadeWords, MadeAdmitted, ReplacedAdmitted, RefusedKeeps, OffsetKeeps, SubscreensKeep, CellsKeep, TrueThroughout}
+use Rattle.screen.specs.Laws.{AdmittedWords, PhaseBelow, PhaseWords, PhaseOnly, StepsRight, StepRight, StepsDown, StepDown, LinesRise, PlaceOnSheet, PlaceAnswered, BrickSize, PeriodRight, ShiftWords, ShiftOnly, ShiftLaw, BrickAnswered, FilledIsTrue, ReadFromBrick, BufferRefused, times, EachPhaseOnce, EachPhaseTimes, MadeWords, MadeAdmitted, ReplacedAdmitted, RefusedKeeps, OffsetKeeps, SubscreensKeep, CellsKeep, TrueThroughout}
 use Rattle.screen.proofs.Refusals as Refusals
 use Rattle.screen.proofs.PhaseLaws as PhaseLaws
 use Rattle.screen.proofs.BrickLaws as BrickLaws
@@ -43,8 +43,14 @@ steps-right s e = PhaseLaws.steps-right _ _ _ _ (limits e .cells-above)
 pub step-right : StepRight
 step-right s e = PhaseLaws.step-right _ _ _ _ (limits e .cells-above)
 
+pub steps-down : StepsDown
+steps-down s e = PhaseLaws.steps-down _ _ _ _ (limits e .cells-above)
+
 pub step-down : StepDown
-step-down s e = PhaseLaws.row-back _ _ _ _ (limits e .cells-above)
+step-down s e = PhaseLaws.step-down _ _ _ _ (limits e .cells-above)
+
+pub lines-rise : LinesRise
+lines-rise s e = PhaseLaws.rising _ _ _ _ (limits e .cells-above)
 
 pub place-on-sheet : PlaceOnSheet
 place-on-sheet s e x y l h = sym (Refusals.place-whole s x y (sym (Refusals.place-on s x y e l h)))

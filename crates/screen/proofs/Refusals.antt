@@ -1,7 +1,7 @@
 -- Refusals from the tests that a call makes, one law a number; and what a call that is not refused has passed.
 -- Assumes nothing.
-use Prim.Native.Nat.{ℕ, _*_, _/_, _%_, _≤_, _<_, _∣_}
-use mathlib.Core.Path.{_≡_, refl, sym, ap, ap₂, _∙_}
+use Prim.Native.Nat.{ℕ, _+_, _*_, _/_, _%_, _≤_, _<_, _∣_}
+use mathlib.Core.Path.{_≡_, refl, sym, ap₂, _∙_}
 use mathlib.Core.Bool.{Bool, true, false}
 use mathlib.Core.List.{List, _++_}
 use native.Mathlib.Nat.{mul-div-cancel-left}
@@ -10,10 +10,8 @@ use lib.Dec.{eqb}
 use lib.ListN.{length, drop}
 use borrow.Author.Tests.{leb-true, ltb-true, eqb-true, eqb-false, le-leb, lt-leb, lt-ltb, eq-eqb}
 use Rattle.arith.specs.Refusal.{unless}
-use Rattle.arith.specs.Remainder.{remainderOf}
 use Rattle.arith.specs.Sheet.{onSheet}
 use Rattle.arith.proofs.RefusalLaws.{both-pass, unless-none, refused-first, refused-later, answered-none, answered-whole, written-none, written-whole, or-none}
-use Rattle.arith.proofs.RemainderLaws.{remainder-none}
 use Rattle.arith.proofs.RunLaws.{upto-length}
 use Rattle.arith.proofs.SheetLaws.{off-right, off-below, on-sheet, sheet-kept}
 use Rattle.screen.specs.declared.Screen.{Screen}
@@ -132,10 +130,10 @@ module _ (s : Screen) where
 
   -- of rows that divide a and N, and a shift below the columns, whether the equation holds says whether they are the brick's
   pub stored-told : Limits s → s .rows ∣ s .a → s .rows * s .columns ≡ s .n → s .shift < s .columns
-      → eqb (remainderOf (s .a * s .shift) (s .b * s .rows) (s .n)) 0 ≡ storedTrue s
-  stored-told l divides whole below = go (eqb (remainderOf (s .a * s .shift) (s .b * s .rows) (s .n)) 0) refl
+      → eqb ((s .a * s .shift + s .b * s .rows) % s .n) 0 ≡ storedTrue s
+  stored-told l divides whole below = go (eqb ((s .a * s .shift + s .b * s .rows) % s .n) 0) refl
     where
-      fitting : s .a * s .shift % s .n ≡ s .b * s .rows % s .n → Stored s
+      fitting : (s .a * s .shift + s .b * s .rows) % s .n ≡ 0 → Stored s
       fitting e =
           let high : s .rows ≡ rowsOf (s .a) (s .n) = rows-only (s .a) (s .b) (s .n) (s .rows) (s .columns) (s .shift) (l .slope-lowest) divides whole e in
           let pos : 0 < s .rows = rw high (rows-pos (s .a) (s .n) (l .cells-above)) in
@@ -143,15 +141,15 @@ module _ (s : Screen) where
           record {
             columns-true = wide;
             rows-true = high;
-            shift-true = shift-only (s .a) (s .b) (s .n) (l .cells-above) (s .shift) (rw (← wide) below) (e ∙ ap (λ (h : ℕ). s .b * h % s .n) high);
+            shift-true = shift-only (s .a) (s .b) (s .n) (l .cells-above) (s .shift) (rw (← wide) below) (rw high at e);
           }
 
-      fitted : Stored s → s .a * s .shift % s .n ≡ s .b * s .rows % s .n
+      fitted : Stored s → (s .a * s .shift + s .b * s .rows) % s .n ≡ 0
       fitted t = rw (t .shift-true, t .rows-true) (shift-words (s .a) (s .b) (s .n) (l .cells-above))
 
-      go : (t : Bool) → eqb (remainderOf (s .a * s .shift) (s .b * s .rows) (s .n)) 0 ≡ t → t ≡ storedTrue s
-      go true e = sym (stored-suffice (fitting (remainder-none _ _ _ (l .cells-above) .0 (eqb-true _ _ e))))
-      go false e = stored-failed (λ t. eqb-false _ _ e (remainder-none _ _ _ (l .cells-above) .1 (fitted t)))
+      go : (t : Bool) → eqb ((s .a * s .shift + s .b * s .rows) % s .n) 0 ≡ t → t ≡ storedTrue s
+      go true e = sym (stored-suffice (fitting (eqb-true _ _ e)))
+      go false e = stored-failed (λ t. eqb-false _ _ e (fitted t))
 
   -- ---- the screen: 1 to 4, then 15
 

@@ -22,12 +22,12 @@ AdmittedWords = (s : Screen) → (Admitted s → Limits s) × (Admitted s → St
 abbrev pub PhaseBelow : Type 0
 PhaseBelow = (s : Screen) → Admitted s → (x y : ℕ) → phase s x y < s .n
 
--- and with b × y + g added back it leaves the remainder of a × x, which no other number below N does
+-- and with g added back it leaves the remainder of a × x + b × y, which no other number below N does
 abbrev pub PhaseWords : Type 0
-PhaseWords = (s : Screen) → Admitted s → (x y : ℕ) → (phase s x y + (s .b * y + s .g)) % s .n ≡ s .a * x % s .n
+PhaseWords = (s : Screen) → Admitted s → (x y : ℕ) → (phase s x y + s .g) % s .n ≡ (s .a * x + s .b * y) % s .n
 
 abbrev pub PhaseOnly : Type 0
-PhaseOnly = (s : Screen) → Admitted s → (x y p : ℕ) → p < s .n → (p + (s .b * y + s .g)) % s .n ≡ s .a * x % s .n → p ≡ phase s x y
+PhaseOnly = (s : Screen) → Admitted s → (x y p : ℕ) → p < s .n → (p + s .g) % s .n ≡ (s .a * x + s .b * y) % s .n → p ≡ phase s x y
 
 -- rule 2.3, the phase carried along a row: j columns on, j times a is added
 abbrev pub StepsRight : Type 0
@@ -37,9 +37,23 @@ StepsRight = (s : Screen) → Admitted s → (x y j : ℕ) → phase s (x + j) y
 abbrev pub StepRight : Type 0
 StepRight = (s : Screen) → Admitted s → (x y : ℕ) → phase s (x + 1) y ≡ (phase s x y + s .a % s .n) % s .n
 
--- rule 2.3: one row down, b is taken off
+-- rule 2.3, and down a column: j rows on, j times b is added; from one place, and from all
+abbrev pub SteppedDown : Screen → ℕ → ℕ → ℕ → Type 0
+SteppedDown s x y j = phase s x (y + j) ≡ (phase s x y + s .b * j) % s .n
+
+abbrev pub StepsDown : Type 0
+StepsDown = (s : Screen) → Admitted s → (x y j : ℕ) → SteppedDown s x y j
+
+-- one row on, by the remainder of b
 abbrev pub StepDown : Type 0
-StepDown = (s : Screen) → Admitted s → (x y : ℕ) → (phase s x (y + 1) + s .b) % s .n ≡ phase s x y
+StepDown = (s : Screen) → Admitted s → (x y : ℕ) → phase s x (y + 1) ≡ (phase s x y + s .b % s .n) % s .n
+
+-- rule 2.5, lines rise to the right: b columns on has the phase of a rows down; from one place, and from all
+abbrev pub Rising : Screen → ℕ → ℕ → Type 0
+Rising s x y = phase s (x + s .b) y ≡ phase s x (y + s .a)
+
+abbrev pub LinesRise : Type 0
+LinesRise = (s : Screen) → Admitted s → (x y : ℕ) → Rising s x y
 
 -- what `phase_at` answers for a place on the sheet
 abbrev pub PlaceOnSheet : Type 0
@@ -61,12 +75,12 @@ BrickSize = (s : Screen) → Admitted s → (0 < columns s) × (0 < rows s) × (
 abbrev pub PeriodRight : Type 0
 PeriodRight = (s : Screen) → Admitted s → (x y : ℕ) → phase s (x + columns s) y ≡ phase s x y
 
--- rule 3.3: the shift is below L and leads as far along a row as H rows lead down, and no other number does
+-- rule 3.3: the shift S is below L and makes a × S + b × H a multiple of N, as no other number below L does
 abbrev pub ShiftWords : Type 0
-ShiftWords = (s : Screen) → Admitted s → (shift s < columns s) × (s .a * shift s % s .n ≡ s .b * rows s % s .n)
+ShiftWords = (s : Screen) → Admitted s → (shift s < columns s) × ((s .a * shift s + s .b * rows s) % s .n ≡ 0)
 
 abbrev pub ShiftOnly : Type 0
-ShiftOnly = (s : Screen) → Admitted s → (t : ℕ) → t < columns s → s .a * t % s .n ≡ s .b * rows s % s .n → t ≡ shift s
+ShiftOnly = (s : Screen) → Admitted s → (t : ℕ) → t < columns s → (s .a * t + s .b * rows s) % s .n ≡ 0 → t ≡ shift s
 
 -- rule 3.4, the shift leads to the same phase H rows down: from one place, and from all
 abbrev pub Shifted : Screen → ℕ → ℕ → Type 0

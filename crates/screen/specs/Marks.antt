@@ -11,7 +11,7 @@ use Rattle.screen.specs.Screens.{screenOf, refusalOf}
 use Rattle.screen.specs.Phase.{phaseOf, placeRefusal}
 use Rattle.screen.specs.Brick.{brickOf, bufferRefusal, filled, placeInBrick}
 use Rattle.screen.specs.Made.{madeOf, offsetReplaced, subscreensReplaced, cellsReplaced, offset, subscreens, cells, afterAll}
-use Rattle.screen.specs.Laws.{Shifted, Once}
+use Rattle.screen.specs.Laws.{SteppedDown, Rising, Shifted, Once}
 
 -- the screen of rule 12.8's text
 abbrev pub listed : Screen
@@ -31,7 +31,7 @@ filed n k g l h s = record { a = 4; b = 7; n = n; k = k; g = g; columns = l; row
 
 -- rule 12.19's screen, with K subscreens
 abbrev pub untrue : ℕ → Screen
-untrue k = filed 70 k 0 35 2 20
+untrue k = filed 70 k 0 35 2 21
 
 -- the screen of slope a/b and N cells has a brick of L columns, H rows and shift S
 abbrev pub BrickIs : ℕ → ℕ → ℕ → ℕ → ℕ → ℕ → Type 0
@@ -39,16 +39,21 @@ BrickIs a b n l h s = (columnsOf a n ≡ l) × (rowsOf a n ≡ h) × (shiftOf a 
 
 pub record Marks : Type 0 where
   -- rule 12.1
-  pub brick-105 : BrickIs 4 7 105 105 1 28
-  pub brick-70 : BrickIs 4 7 70 35 2 21
+  pub brick-105 : BrickIs 4 7 105 105 1 77
+  pub brick-70 : BrickIs 4 7 70 35 2 14
   pub brick-1 : BrickIs 1 2 1 1 1 0
   -- rule 12.2
-  pub phase-98 : phaseOf 4 7 105 0 0 1 ≡ 98
-  pub phase-103 : phaseOf 4 7 105 0 3 2 ≡ 103
+  pub phase-7 : phaseOf 4 7 105 0 0 1 ≡ 7
+  pub phase-26 : phaseOf 4 7 105 0 3 2 ≡ 26
+  -- 20 rows further down, by rule 2.3; and rule 2.5: 7 columns to the right of it, and 4 rows below it, phase 54
+  pub stepped-down : SteppedDown listed 3 2 20
+  pub rising : Rising listed 3 2
+  -- rule 12.12: 4 × 0 + 7 × 1 − 40 is below 0
+  pub phase-72 : phaseOf 4 7 105 40 0 1 ≡ 72
   -- a brick of 2 columns and 2 rows, whose first phase is that of −g; the fifth place stays as it is
-  pub filled-4 : filled (screenOf 2 3 4 1 1) (9 ∷ 9 ∷ 9 ∷ 9 ∷ 9 ∷ []) ≡ 3 ∷ 1 ∷ 0 ∷ 2 ∷ 9 ∷ []
-  -- row 3 is the second row of the second bricks down, which stand S = 21 columns further right
-  pub place-70 : placeInBrick tworowed 0 3 ≡ 49
+  pub filled-4 : filled (screenOf 2 3 4 1 1) (9 ∷ 9 ∷ 9 ∷ 9 ∷ 9 ∷ []) ≡ 3 ∷ 1 ∷ 2 ∷ 0 ∷ 9 ∷ []
+  -- row 3 is the second row of the second bricks down, which stand S = 14 columns further right
+  pub place-70 : placeInBrick tworowed 0 3 ≡ 56
   -- the shift leads on to the same phase, and each phase occurs once in a brick
   pub shifted : Shifted listed 0 0
   pub once : Once tworowed 0 0 1
@@ -56,14 +61,14 @@ pub record Marks : Type 0 where
   pub lowest-3 : refusalOf (screenOf 4 7 5 6 5) ≡ 3
   pub lowest-1 : placeRefusal sloped 65536 0 ≡ 1
   -- rule 12.18: made, replaced and refused
-  pub made : madeOf 4 7 105 2 40 ≡ record { refusal = 0; screen = filed 105 2 40 105 1 28 }
-  pub cells-70 : cellsReplaced (filed 105 2 40 105 1 28) 70 ≡ record { refusal = 0; screen = filed 70 2 40 35 2 21 }
-  pub cells-1 : cellsReplaced (filed 70 2 40 35 2 21) 1 ≡ record { refusal = 3; screen = filed 70 2 40 35 2 21 }
-  pub cells-40 : cellsReplaced (filed 70 2 40 35 2 21) 40 ≡ record { refusal = 4; screen = filed 70 2 40 35 2 21 }
-  pub offset-70 : offsetReplaced (filed 70 2 40 35 2 21) 70 ≡ record { refusal = 4; screen = filed 70 2 40 35 2 21 }
-  pub subscreens-17 : subscreensReplaced (filed 70 2 40 35 2 21) 17 ≡ record { refusal = 3; screen = filed 70 2 40 35 2 21 }
+  pub made : madeOf 4 7 105 2 40 ≡ record { refusal = 0; screen = filed 105 2 40 105 1 77 }
+  pub cells-70 : cellsReplaced (filed 105 2 40 105 1 77) 70 ≡ record { refusal = 0; screen = filed 70 2 40 35 2 14 }
+  pub cells-1 : cellsReplaced (filed 70 2 40 35 2 14) 1 ≡ record { refusal = 3; screen = filed 70 2 40 35 2 14 }
+  pub cells-40 : cellsReplaced (filed 70 2 40 35 2 14) 40 ≡ record { refusal = 4; screen = filed 70 2 40 35 2 14 }
+  pub offset-70 : offsetReplaced (filed 70 2 40 35 2 14) 70 ≡ record { refusal = 4; screen = filed 70 2 40 35 2 14 }
+  pub subscreens-17 : subscreensReplaced (filed 70 2 40 35 2 14) 17 ≡ record { refusal = 3; screen = filed 70 2 40 35 2 14 }
   -- a list of these, with two that are served after them
-  pub list : afterAll (cells 70 ∷ cells 1 ∷ offset 70 ∷ subscreens 17 ∷ offset 5 ∷ subscreens 3 ∷ []) (filed 105 2 40 105 1 28) ≡ filed 70 3 5 35 2 21
+  pub list : afterAll (cells 70 ∷ cells 1 ∷ offset 70 ∷ subscreens 17 ∷ offset 5 ∷ subscreens 3 ∷ []) (filed 105 2 40 105 1 77) ≡ filed 70 3 5 35 2 14
   -- five numbers that are refused make eight zeros
   pub unmade : madeOf 4 7 105 17 0 ≡ record { refusal = 3; screen = record { a = 0; b = 0; n = 0; k = 0; g = 0; columns = 0; rows = 0; shift = 0 } }
   -- rule 12.19: 15 after 3 and before 5 and 8; the screen that is handed in before the new one, and handed back
@@ -73,7 +78,7 @@ pub record Marks : Type 0 where
   pub untrue-8 : bufferRefusal (untrue 2) 0 ≡ 15
   pub untrue-brick : brickOf (untrue 2) ≡ record { refusal = 15; columns = 0; rows = 0; shift = 0 }
   pub untrue-back : cellsReplaced (untrue 2) 0 ≡ record { refusal = 15; screen = untrue 2 }
-  -- each stored number by itself, and a shift that fits beyond the columns
-  pub untrue-columns : refusalOf (filed 70 2 0 36 2 21) ≡ 15
-  pub untrue-rows : refusalOf (filed 70 2 0 35 1 21) ≡ 15
-  pub untrue-far : refusalOf (filed 70 2 0 35 2 56) ≡ 15
+  -- each stored number by itself, and a shift beyond the columns that fits the equation
+  pub untrue-columns : refusalOf (filed 70 2 0 36 2 14) ≡ 15
+  pub untrue-rows : refusalOf (filed 70 2 0 35 1 14) ≡ 15
+  pub untrue-far : refusalOf (filed 70 2 0 35 2 49) ≡ 15

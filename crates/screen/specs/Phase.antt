@@ -8,9 +8,9 @@ use Rattle.screen.specs.declared.Screen.{Screen}
 use Rattle.screen.specs.declared.places.Place.{Place}
 use Rattle.screen.specs.Screens.{refusalOf}
 
--- rule 2.2: (a × x − b × y − g) mod N
+-- rule 2.2: (a × x + b × y − g) mod N
 unfoldable pub phaseOf : ℕ → ℕ → ℕ → ℕ → ℕ → ℕ → ℕ
-phaseOf a b n g x y = remainderOf (a * x) (b * y + g) n
+phaseOf a b n g x y = remainderOf (a * x + b * y) g n
 
 abbrev pub phase : Screen → ℕ → ℕ → ℕ
 phase s x y = phaseOf (s .a) (s .b) (s .n) (s .g) x y

@@ -1,7 +1,7 @@
 -- Rules 3.1 to 3.3: the size and the shift of a brick, by the numbers a, b and N of its screen. They come first because a screen
 -- stores them (rule 17.1).
 -- Assumes nothing: these are definitions.
-use Prim.Native.Nat.{ℕ, _*_, _/_, _%_}
+use Prim.Native.Nat.{ℕ, _+_, _*_, _/_, _%_}
 use lib.Dec.{eqb}
 use Rattle.arith.specs.Gcd.{gcdOf}
 use Rattle.arith.specs.First.{firstBelow}
@@ -14,7 +14,6 @@ rowsOf a n = gcdOf a n
 abbrev pub columnsOf : ℕ → ℕ → ℕ
 columnsOf a n = n / rowsOf a n
 
--- Rule 3.3, the shift S: the first number below L that leads as far along a row as H rows lead down. That there is exactly one is
--- `ShiftOnly` (Laws.antt).
+-- Rule 3.3, the shift S: the first number below L with (a × S + b × H) mod N = 0. That there is exactly one is `ShiftOnly` (Laws.antt).
 unfoldable pub shiftOf : ℕ → ℕ → ℕ → ℕ
-shiftOf a b n = firstBelow (columnsOf a n) (λ t. eqb (a * t % n) (b * rowsOf a n % n))
+shiftOf a b n = firstBelow (columnsOf a n) (λ t. eqb ((a * t + b * rowsOf a n) % n) 0)

@@ -63,7 +63,7 @@ fn fill(brick: &mut [u16], a: u32, b: u32, n: u32, g: u32, columns: u32)
     ensures { λ _. ⌜ now (brick .exit) ≡ upto (λ i. phaseAtPlace a b n g i) n ++ drop n (now (brick .entry)) ⌝ }
 {
     let right = a % n;
-    let down = n - b % n;
+    let down = b % n;
     let mut phase = carry(0, n - g, n);
     let mut column = 0;
     let mut place = 0;

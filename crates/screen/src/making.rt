@@ -119,16 +119,16 @@ fn screen_of(a: u32, b: u32, n: u32, k: u32, g: u32) -> Screen
     }
 }
 
-// The first number of columns after which a row has come as far as H rows down lead: the shift.
+// The first number of columns to the right that lead, after H rows down, to the phase set out from: the
+// shift.
 fn shift_of(a: u32, b: u32, n: u32, rows: u32) -> u32
     requires { ⌜ (b ≤ 64) × (0 < n) × (n ≤ 4096) × (rows ≡ rowsOf a n) ⌝ }
     ensures { λ r. ⌜ r ≡ shiftOf a b n ⌝ }
 {
-    let wanted = b * rows % n;
     let right = a % n;
-    let mut reached = 0;
+    let mut reached = b * rows % n;
     let mut shift = 0;
-    while reached != wanted {
+    while reached != 0 {
         reached = carry(reached, right, n);
         shift += 1;
     }

@@ -5,8 +5,7 @@ use crate::Screen;
 
 // Whether a screen stores the size and the shift of its brick. Nothing is searched for: of numbers of rows
 // that divide a and n, and of shifts below the columns, only those of the brick fit the equation of the
-// shift. There n times `down` is added first, so that the difference does not fall below 0; all of it has
-// room in 32 bits.
+// shift. What has passed the tests before it is small enough for 32 bits.
 pub(crate) fn stored_true(s: Screen) -> bool
     requires { ⌜ Limits s ⌝ }
     ensures { λ r. ⌜ r ≡ storedTrue s ⌝ }
@@ -20,6 +19,5 @@ pub(crate) fn stored_true(s: Screen) -> bool
     if s.columns <= s.shift {
         return false;
     }
-    let down = s.b * s.rows;
-    (s.a * s.shift + s.n * down - down) % s.n == 0
+    (s.a * s.shift + s.b * s.rows) % s.n == 0
 }

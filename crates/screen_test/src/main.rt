@@ -183,14 +183,14 @@ fn refused_screens() {
     let zeros = screen_of(0, 0, 0, 0, 0);
     show(zeros);
     with_cells(zeros, 70);
-    let cells = record_of(4, 7, 0, 2, 0, 35, 2, 21);
+    let cells = record_of(4, 7, 0, 2, 0, 35, 2, 14);
     show(cells);
     with_cells(cells, 70);
-    let subscreens = record_of(4, 7, 70, 17, 0, 35, 2, 21);
+    let subscreens = record_of(4, 7, 70, 17, 0, 35, 2, 14);
     show(subscreens);
     with_subscreens(subscreens, 2);
     with_cells(subscreens, 0);
-    let offset = record_of(4, 7, 70, 2, 70, 35, 2, 21);
+    let offset = record_of(4, 7, 70, 2, 70, 35, 2, 14);
     show(offset);
     with_offset(offset, 0);
     with_cells(offset, 105);
@@ -210,28 +210,30 @@ fn stored() {
 
 // 2147483683 times 2 is 70 in 32 bits.
 fn wrong_columns() {
-    show_70(35, 2, 21);
-    show_70(34, 2, 21);
-    show_70(36, 2, 21);
-    show_70(70, 2, 21);
-    show_70(0, 2, 21);
-    show_70(2147483683, 2, 21);
+    show_70(35, 2, 14);
+    show_70(34, 2, 14);
+    show_70(36, 2, 14);
+    show_70(70, 2, 14);
+    show_70(0, 2, 14);
+    show_70(2147483683, 2, 14);
 }
 
 fn wrong_rows() {
-    show_70(35, 1, 21);
-    show_70(35, 3, 21);
-    show_70(35, 0, 21);
-    show_70(35, 4294967295, 21);
+    show_70(35, 1, 14);
+    show_70(35, 3, 14);
+    show_70(35, 0, 14);
+    show_70(35, 4294967295, 14);
 }
 
-// 56 columns lead as far along a row as 21 do; 1073741845 times 4 is 84 in 32 bits, as 21 times 4 is.
+// 14 is true: the numbers beside it; 21, which is 14 to the left; 49, which fits the equation of the shift too;
+// 0; and a number that times 4 is 56 in 32 bits, as 14 times 4 is.
 fn wrong_shift() {
-    show_70(35, 2, 20);
-    show_70(35, 2, 22);
-    show_70(35, 2, 56);
+    show_70(35, 2, 13);
+    show_70(35, 2, 15);
+    show_70(35, 2, 21);
+    show_70(35, 2, 49);
     show_70(35, 2, 0);
-    show_70(35, 2, 1073741845);
+    show_70(35, 2, 1073741838);
     show_stored(record_of(1, 2, 1, 1, 0, 1, 1, 0));
     show_stored(record_of(1, 2, 1, 1, 0, 1, 1, 1));
 }
@@ -239,27 +241,27 @@ fn wrong_shift() {
 // Columns and rows exchanged; other rectangles of 70 cells, whose shift is 0 by rule 3.3's equation; the brick
 // of another cell count; and none.
 fn wrong_together() {
-    show_70(2, 35, 21);
+    show_70(2, 35, 14);
     show_70(7, 10, 0);
     show_70(1, 70, 0);
-    show_70(105, 1, 28);
+    show_70(105, 1, 77);
     show_70(0, 0, 0);
     show_70(4294967295, 4294967295, 4294967295);
-    let of_70 = record_of(4, 7, 105, 2, 0, 35, 2, 21);
+    let of_70 = record_of(4, 7, 105, 2, 0, 35, 2, 14);
     show_stored(of_70);
     with_cells(of_70, 70);
 }
 
 fn lowest_of_stored() {
-    show_stored(record_of(4, 8, 70, 2, 0, 35, 2, 20));
-    show_stored(record_of(4, 7, 0, 2, 0, 35, 2, 20));
-    show_stored(record_of(4, 7, 70, 17, 0, 35, 2, 20));
-    show_stored(record_of(4, 7, 70, 2, 70, 35, 2, 20));
+    show_stored(record_of(4, 8, 70, 2, 0, 35, 2, 21));
+    show_stored(record_of(4, 7, 0, 2, 0, 35, 2, 21));
+    show_stored(record_of(4, 7, 70, 17, 0, 35, 2, 21));
+    show_stored(record_of(4, 7, 70, 2, 70, 35, 2, 21));
 }
 
 // 15 before 5 and 8.
 fn stored_in_calls() {
-    let s = record_of(4, 7, 70, 2, 0, 35, 2, 20);
+    let s = record_of(4, 7, 70, 2, 0, 35, 2, 21);
     show_stored(s);
     show_place(s, 65535, 65535);
     show_place(s, 65536, 0);

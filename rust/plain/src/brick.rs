@@ -20,12 +20,13 @@ fn greatest_common_divisor(first: u32, second: u32) -> u32 {
     }
 }
 
-/// The shift S, from 0 to L − 1: a × S mod N is b × H mod N (rule 3.3). So a × S is b × H and some times N,
-/// and since a × L is some times N too, the first such multiple of a tells S.
+/// The shift S, from 0 to L − 1: a × S + b × H is a multiple of N (rule 3.3). So a × S is what b × H lacks to
+/// one, and since a × L is a multiple of N too, the first of these that a divides tells S.
 fn shift(a: u32, b: u32, n: u32, columns: u32, rows: u32) -> u32 {
-    let mut sums = (0..a).map(|times| b * rows + times * n);
+    let lacking = n - b * rows % n;
+    let mut lacks = (0..a).map(|times| lacking + times * n);
     let multiple =
-        sums.find(|sum| sum.is_multiple_of(a)).expect("an admitted slope and cell count have a shift");
+        lacks.find(|lack| lack.is_multiple_of(a)).expect("an admitted slope and cell count have a shift");
     multiple / a % columns
 }
 

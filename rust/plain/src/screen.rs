@@ -60,11 +60,11 @@ pub fn screen_refusal(s: Screen) -> u32 {
     }
 }
 
-/// The phase of (x, y): (a × x − b × y − g) mod N (rule 2.2).
+/// The phase of (x, y): (a × x + b × y − g) mod N (rule 2.2).
 pub fn phase(s: Screen, x: u32, y: u32) -> u32 {
     let along = i64::from(s.a) * i64::from(x);
-    let across = i64::from(s.b) * i64::from(y);
-    let value = along - across - i64::from(s.g);
+    let down = i64::from(s.b) * i64::from(y);
+    let value = along + down - i64::from(s.g);
     value.rem_euclid(i64::from(s.n)) as u32
 }
 

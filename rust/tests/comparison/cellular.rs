@@ -18,7 +18,7 @@ use cavzemil_plain::{colorant_order, colorant_sets, counts_of, set_weights, Inks
 const VALUES: usize = 765;
 
 /// A screen that is admitted; with the ink values below it gives weight to the sets 8 and 139 (rule 12.16).
-const SCREEN: Screen = Screen { a: 4, b: 7, n: 105, k: 2, g: 0, columns: 105, rows: 1, shift: 28 };
+const SCREEN: Screen = Screen { a: 4, b: 7, n: 105, k: 2, g: 0, columns: 105, rows: 1, shift: 77 };
 
 /// The ink values of rule 12.16.
 const INKS: Inks = [128, 128, 0];

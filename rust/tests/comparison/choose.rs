@@ -96,7 +96,7 @@ pub fn limit_screens() -> Vec<Screen> {
 fn false_records() -> Vec<Screen> {
     let s = draw::record([4, 7, 70, 2, 3]);
     let mut screens = other_records(s);
-    let s = Screen { columns: 36, rows: 3, shift: 20, ..s };
+    let s = Screen { columns: 36, rows: 3, shift: 21, ..s };
     screens.extend([
         Screen { a: 7, ..s },
         Screen { n: 4097, ..s },

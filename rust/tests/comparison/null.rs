@@ -7,10 +7,10 @@ use cavzemil_plain::{Screen, Window};
 use std::ptr::{null, null_mut};
 
 /// A screen that is admitted.
-const SCREEN: Screen = Screen { a: 4, b: 7, n: 70, k: 2, g: 3, columns: 35, rows: 2, shift: 21 };
+const SCREEN: Screen = Screen { a: 4, b: 7, n: 70, k: 2, g: 3, columns: 35, rows: 2, shift: 14 };
 
 /// A screen whose record is false.
-const FALSE: Screen = Screen { shift: 20, ..SCREEN };
+const FALSE: Screen = Screen { shift: 21, ..SCREEN };
 
 /// Renders a window from and to null pointers by both renderers, the second with a null brick.
 fn refusals(screen: Screen, window: Window) -> (u32, u32) {

@@ -8,7 +8,7 @@ use cavzemil_plain::random::Random;
 use cavzemil_plain::{colorant_order, colorant_sets, set_weights, Inks, Screen};
 
 /// The screen, the ink values and the counts of rule 12.3.
-const SCREEN: Screen = Screen { a: 4, b: 7, n: 105, k: 1, g: 0, columns: 105, rows: 1, shift: 28 };
+const SCREEN: Screen = Screen { a: 4, b: 7, n: 105, k: 1, g: 0, columns: 105, rows: 1, shift: 77 };
 const INKS: Inks = [128, 128, 0];
 const COUNTS: [u32; 8] = [26, 26, 0, 27, 0, 0, 0, 26];
 

@@ -9,8 +9,8 @@ use crate::subject::{render, render_brick, replace_cells};
 use cavzemil_plain::{Brick, Cell, Counts, Made, Place, Rendering, Screen, Window};
 
 /// Records like this one that store other numbers: one of them beside its own, a shift that is larger by all
-/// columns, two in each other's place, zeros, those of one cell less, and those of a higher brick with as many
-/// cells whose shift fits its rows.
+/// columns, the shift to the left, two in each other's place, zeros, those of one cell less, and those of a
+/// higher brick with as many cells whose shift fits its rows.
 pub fn other_records(s: Screen) -> Vec<Screen> {
     let Screen { columns, rows, shift, .. } = s;
     let mut others = vec![
@@ -21,6 +21,7 @@ pub fn other_records(s: Screen) -> Vec<Screen> {
         [columns, rows, shift.wrapping_add(1)],
         [columns, rows, shift.wrapping_sub(1)],
         [columns, rows, shift.wrapping_add(columns)],
+        [columns, rows, columns.wrapping_sub(shift)],
         [rows, columns, shift],
         [shift, rows, columns],
         [columns, shift, rows],
@@ -38,15 +39,15 @@ pub fn other_records(s: Screen) -> Vec<Screen> {
 /// Rules 11.19 and 12.19.
 #[test]
 fn false_records_are_refused_as_worked_out() {
-    let s = Screen { a: 4, b: 7, n: 70, k: 2, g: 0, columns: 35, rows: 2, shift: 20 };
+    let s = Screen { a: 4, b: 7, n: 70, k: 2, g: 0, columns: 35, rows: 2, shift: 21 };
     assert_eq!(brick_of(s), Brick { refusal: 15, ..Brick::default() });
     assert_eq!(replace_cells(s, 0), Made { refusal: 15, screen: s });
     assert_eq!(phase_at(s, 65_536, 0), Place { refusal: 15, phase: 0 });
     assert_eq!(brick_of(Screen { k: 17, ..s }).refusal, 3);
-    assert_eq!(brick_of(Screen { columns: 36, shift: 21, ..s }).refusal, 15);
-    assert_eq!(brick_of(Screen { rows: 1, shift: 21, ..s }).refusal, 15);
-    assert_eq!(brick_of(Screen { shift: 56, ..s }).refusal, 15);
-    assert_eq!(brick_of(Screen { shift: 21, ..s }).refusal, 0);
+    assert_eq!(brick_of(Screen { columns: 36, shift: 14, ..s }).refusal, 15);
+    assert_eq!(brick_of(Screen { rows: 1, shift: 14, ..s }).refusal, 15);
+    assert_eq!(brick_of(Screen { shift: 49, ..s }).refusal, 15);
+    assert_eq!(brick_of(Screen { shift: 14, ..s }).refusal, 0);
 }
 
 /// A screen of N = 70 that is refused, and what is handed in with it: all of it good, or none.

@@ -77,7 +77,7 @@ fn tried_out(a: u32, b: u32, n: u32) -> (u32, u32, Vec<u32>) {
     let divides_both = |rows: &u32| a.is_multiple_of(*rows) && n.is_multiple_of(*rows);
     let rows = (1..=a).rev().find(divides_both).expect("1 divides both");
     let columns = n / rows;
-    let shifts = (0..columns).filter(|shift| a * shift % n == b * rows % n).collect();
+    let shifts = (0..columns).filter(|shift| (a * shift + b * rows).is_multiple_of(n)).collect();
     (columns, rows, shifts)
 }
 
@@ -116,9 +116,9 @@ fn refused_screens_are_made_of_zeros() {
 /// Rule 12.18.
 #[test]
 fn numbers_are_replaced_as_worked_out() {
-    let made = Screen { a: 4, b: 7, n: 105, k: 2, g: 40, columns: 105, rows: 1, shift: 28 };
+    let made = Screen { a: 4, b: 7, n: 105, k: 2, g: 40, columns: 105, rows: 1, shift: 77 };
     assert_eq!(make_screen(4, 7, 105, 2, 40), Made { refusal: 0, screen: made });
-    let replaced = Screen { n: 70, columns: 35, rows: 2, shift: 21, ..made };
+    let replaced = Screen { n: 70, columns: 35, rows: 2, shift: 14, ..made };
     assert_eq!(replace_cells(made, 70), Made { refusal: 0, screen: replaced });
     let refused = |refusal| Made { refusal, screen: replaced };
     assert_eq!(replace_cells(replaced, 1), refused(3));
@@ -138,7 +138,7 @@ fn screens_that_are_handed_in_are_judged_first() {
         (3, record([4, 7, 70, 17, 5])),
         (3, record([4, 7, 70, 0, 70])),
         (4, record([4, 7, 70, 2, 70])),
-        (15, Screen { shift: 20, ..record([4, 7, 70, 2, 5]) }),
+        (15, Screen { shift: 21, ..record([4, 7, 70, 2, 5]) }),
         (15, Screen { n: 105, ..record([4, 7, 70, 2, 5]) }),
     ];
     let offsets = [0, 5, 4096].map(Replacement::Offset);

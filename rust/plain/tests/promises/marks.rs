@@ -51,16 +51,17 @@ fn first_colorants() -> [u32; 105] {
 #[test]
 fn bricks_have_the_worked_sizes() {
     let sizes = |columns, rows, shift| Brick { refusal: 0, columns, rows, shift };
-    assert_eq!(brick_of(four_sevenths(105)), sizes(105, 1, 28));
-    assert_eq!(brick_of(four_sevenths(70)), sizes(35, 2, 21));
+    assert_eq!(brick_of(four_sevenths(105)), sizes(105, 1, 77));
+    assert_eq!(brick_of(four_sevenths(70)), sizes(35, 2, 14));
     assert_eq!(brick_of(ONE_CELL), sizes(1, 1, 0));
 }
 
-/// Rule 12.2. A difference below 0 leaves no remainder below 0 (rule 12.12).
+/// Rule 12.2; and rule 12.12: a difference below 0 leaves no remainder below 0.
 #[test]
 fn phases_are_the_worked_ones() {
-    assert_eq!(phase_at(four_sevenths(105), 0, 1), Place { refusal: 0, phase: 98 });
-    assert_eq!(phase_at(four_sevenths(105), 3, 2), Place { refusal: 0, phase: 103 });
+    assert_eq!(phase_at(four_sevenths(105), 0, 1), Place { refusal: 0, phase: 7 });
+    assert_eq!(phase_at(four_sevenths(105), 3, 2), Place { refusal: 0, phase: 26 });
+    assert_eq!(phase_at(Screen { g: 40, ..four_sevenths(105) }, 0, 1), Place { refusal: 0, phase: 72 });
 }
 
 /// Rules 12.3, 12.5, 12.6 and 12.8. Each share rounded by itself would give 26 of blue (rule 12.11).

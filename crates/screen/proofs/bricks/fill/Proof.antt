@@ -23,9 +23,6 @@ rem-right c = search needs
 rem-down : tie.Need-rem-down Inv-loop μ-loop
 rem-down c = search needs
 
-sub-down : tie.Need-sub-down Inv-loop μ-loop
-sub-down c = le-of-lt (mod-lt _ (c .before .pre .0))
-
 sub-carry : tie.Need-sub-carry Inv-loop μ-loop
 sub-carry c = search needs
 
@@ -66,7 +63,7 @@ add-column c =
 carry-requires-3 : tie.Need-carry-requires-3 Inv-loop μ-loop
 carry-requires-3 c κs =
     let start = c .before .before .before .before .before .before in
-    (c .before .carry2 .ensures .1, omega (arith, mod-lt (start .args .a) (start .pre .0)), start .pre .1)
+    (c .before .carry2 .ensures .1, le-of-lt (mod-lt _ (start .pre .0)), start .pre .1)
 
 add-place : tie.Need-add-place Inv-loop μ-loop
 add-place c = search needs
@@ -103,7 +100,6 @@ fill-spec =
     μ-loop
     rem-right
     rem-down
-    sub-down
     sub-carry
     carry-requires
     loop-holds

@@ -14,23 +14,23 @@ use Rattle.screen.proofs.making.shift_of.Lts as lts
 use Rattle.screen.proofs.bricks.carry.Reads as carry-reads
 
 abbrev Inv-loop : tie.InvT-loop
-Inv-loop a b n rows wanted right reached₀ shift₀ reached shift = ShiftAt a b n reached shift
+Inv-loop a b n rows right reached₀ shift₀ reached shift = ShiftAt a b n reached shift
 
 abbrev μ-loop : tie.MeasureT-loop
-μ-loop a b n rows wanted right reached₀ shift₀ reached shift = shiftOf a b n - shift
+μ-loop a b n rows right reached₀ shift₀ reached shift = shiftOf a b n - shift
 
-mul-wanted : tie.Need-mul-wanted Inv-loop μ-loop
-mul-wanted c =
+mul-reached : tie.Need-mul-reached Inv-loop μ-loop
+mul-reached c =
     omega (arith, mul-le-mul {n₁ = c .args .b} {m₁ = c .args .rows} {n₂ = 64} {m₂ = 4096} (c .pre .0) (omega (arith, c .pre .3, rows-le (c .args .a) (c .args .n) (c .pre .1))))
 
-rem-wanted : tie.Need-rem-wanted Inv-loop μ-loop
-rem-wanted c = search needs
+rem-reached : tie.Need-rem-reached Inv-loop μ-loop
+rem-reached c = search needs
 
 rem-right : tie.Need-rem-right Inv-loop μ-loop
 rem-right c = search needs
 
 loop-holds : tie.Need-loop-holds Inv-loop μ-loop
-loop-holds c = shift-start _ _ _
+loop-holds c = shift-start _ _ _ _ (c .pre .3)
 
 carry-requires : tie.Need-carry-requires Inv-loop μ-loop
 carry-requires c κs =
@@ -42,7 +42,7 @@ ahead : (c : lts.In-loop (carry-reads.Asked, carry-reads.Learnt) reads.Pre reads
     → c .before .loop .shift < shiftOf (c .before .before .args .a) (c .before .before .args .b) (c .before .before .args .n)
 ahead c =
     let start = c .before .before in
-    shift-ahead (c .before .loop .inv) (start .args .rows) (start .pre .1) (start .pre .3) (c .loop-test .taken)
+    shift-ahead (c .before .loop .inv) (start .pre .1) (c .loop-test .taken)
 
 add-shift : tie.Need-add-shift Inv-loop μ-loop
 add-shift c =
@@ -56,7 +56,7 @@ loop-again : tie.Need-loop-again Inv-loop μ-loop
 loop-again c = shift-step (c .before .before .loop .inv) _ (ahead (c .before)) (c .carry .ensures .0)
 
 returns : tie.Need-returns Inv-loop μ-loop
-returns c = shift-end (c .before .loop .inv) _ (c .before .before .pre .3) (c .loop-test .left)
+returns c = shift-end (c .before .loop .inv) (c .loop-test .left)
 
 pub shift-of-spec : {M : Type 1} → statement M
 shift-of-spec =
@@ -64,9 +64,9 @@ shift-of-spec =
     (tie.spec
     Inv-loop
     μ-loop
-    mul-wanted
-    rem-wanted
     rem-right
+    mul-reached
+    rem-reached
     loop-holds
     carry-requires
     add-shift

@@ -6,7 +6,6 @@ use mathlib.Core.Path.{_≡_, ap, ap₂, _∙_}
 use native.Mathlib.Nat.{le-of-dvd, le-mul-of-pos-right, zero-mul, mul-comm, mul-le-mul, pos-of-ne-zero, dvd-of-mod-eq-zero, mod-eq-zero-of-dvd}
 use native.Mathlib.Omega.{arith}
 use borrow.Author.Needs.{needs}
-use Rattle.arith.specs.Remainder.{remainderOf}
 use Rattle.arith.proofs.GcdLaws.{gcd-divides}
 use Rattle.screen.specs.declared.Screen.{Screen}
 use Rattle.screen.specs.Screens.{Limits, Stored}
@@ -34,9 +33,6 @@ module _ {s : Screen} (l : Limits s) (passed : s .a % s .rows ≡ 0) where
   down-few =
       let few : s .rows ≤ s .a = le-of-dvd (l .slope-above) (dvd-of-mod-eq-zero (s .rows) passed) in
       mul-le-mul {n₁ = s .b} {m₁ = s .rows} {n₂ = 64} {m₂ = 64} (l .slope-limit) (omega (arith, few, l .slope-below, l .slope-limit))
-
-  round-few : s .n * (s .b * s .rows) ≤ 4096 * 4096
-  round-few = mul-le-mul {n₁ = s .n} {m₁ = s .b * s .rows} {n₂ = 4096} {m₂ = 4096} (l .cells-limit) (omega (arith, down-few))
 
 module _ {s : Screen} (l : Limits s) (size : s .rows * s .columns ≡ s .n) where
   rows-some : 0 < s .rows
@@ -73,31 +69,22 @@ returns-2 c = stored-failed _ (λ t. c .if2 .taken (divides (c .before .before .
 returns-3 : tie.Need-returns-3
 returns-3 c = stored-failed _ (λ t. omega (arith, c .if3 .taken, below (c .before .before .before .before .before .before .before .before .pre) t))
 
-mul-down : tie.Need-mul-down
-mul-down c = omega (arith, down-few (c .before .before .before .before .before .before .before .before .before .pre) (c .before .before .before .if2 .left))
-
 mul-result : tie.Need-mul-result
-mul-result c = omega (arith, ahead-few (c .before .before .before .before .before .before .before .before .before .before .pre) (c .before .before .before .before .before .before .if1 .left) (c .before .before .if3 .left))
+mul-result c = omega (arith, ahead-few (c .before .before .before .before .before .before .before .before .before .pre) (c .before .before .before .before .before .if1 .left) (c .before .if3 .left))
 
 mul-result-2 : tie.Need-mul-result-2
-mul-result-2 c = omega (arith, round-few (c .before .before .before .before .before .before .before .before .before .before .before .pre) (c .before .before .before .before .before .if2 .left))
+mul-result-2 c = omega (arith, down-few (c .before .before .before .before .before .before .before .before .before .before .pre) (c .before .before .before .before .if2 .left))
 
 add-result : tie.Need-add-result
 add-result c =
-    let start = c .before .before .before .before .before .before .before .before .before .before .before in
-    omega (arith, round-few (start .pre) (c .before .before .before .before .before .if2 .left), ahead-few (start .pre) (c .before .before .before .before .before .before .before .if1 .left) (c .before .before .before .if3 .left))
-
-sub-result : tie.Need-sub-result
-sub-result c =
-    let start = c .before .before .before .before .before .before .before .before .before .before .before in
-    omega (arith, le-mul-of-pos-right (start .args .s .b * start .args .s .rows) (start .pre .cells-above))
+    let start = c .before .before .before .before .before .before .before .before .before .before in
+    omega (arith, ahead-few (start .pre) (c .before .before .before .before .before .before .if1 .left) (c .before .before .if3 .left), down-few (start .pre) (c .before .before .before .before .if2 .left))
 
 rem-result : tie.Need-rem-result
-rem-result c = c .before .before .before .before .before .before .before .before .before .before .before .before .pre .cells-above
+rem-result c = c .before .before .before .before .before .before .before .before .before .before .before .pre .cells-above
 
 returns-4 : tie.Need-returns-4
-unfolding remainderOf
-returns-4 c = stored-told _ (c .before .before .before .before .before .before .before .before .before .before .before .before .pre) (dvd-of-mod-eq-zero _ (c .before .before .before .before .before .before .if2 .left)) (c .before .before .before .before .before .before .before .before .if1 .left) (c .before .before .before .before .if3 .left)
+returns-4 c = stored-told _ (c .before .before .before .before .before .before .before .before .before .before .before .pre) (dvd-of-mod-eq-zero _ (c .before .before .before .before .before .if2 .left)) (c .before .before .before .before .before .before .before .if1 .left) (c .before .before .before .if3 .left)
 
 pub stored-true-spec : {M : Type 1} → statement M
 stored-true-spec =
@@ -111,10 +98,8 @@ stored-true-spec =
     rem-if2
     returns-2
     returns-3
-    mul-down
     mul-result
     mul-result-2
     add-result
-    sub-result
     rem-result
     returns-4)
