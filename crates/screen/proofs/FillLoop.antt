@@ -12,7 +12,7 @@ use Rattle.arith.proofs.RunLaws.{upto-store, upto-over}
 use Rattle.screen.specs.Phase.{phaseOf}
 use Rattle.screen.specs.Sizes.{columnsOf}
 use Rattle.screen.specs.Brick.{phaseAtPlace}
-use Rattle.screen.proofs.PhaseLaws.{phase-below, phase-carried, step-right, step-down}
+use Rattle.screen.proofs.PhaseLaws.{phase-below, phase-lacking, step-right, step-down}
 use Rattle.screen.proofs.BrickLaws.{columns-pos, period-times}
 
 pub record FillAt (a b n g : ℕ) (buffer₀ buffer : List ℕ) (phase column i : ℕ) : Type 0 where
@@ -24,7 +24,7 @@ pub record FillAt (a b n g : ℕ) (buffer₀ buffer : List ℕ) (phase column i 
 module _ (a b n g : ℕ) (pos : 0 < n) where
   -- the phase of the sheet's corner is what g leaves to n
   corner : g < n → (n - g) % n ≡ phaseOf a b n g 0 0
-  corner l = rw (mul-zero, mul-zero, zero-mod, zero-add) at (phase-carried a b n g pos 0 0 (n - g) (omega arith))
+  corner l = rw (mul-zero, mul-zero, zero-add, zero-add) at (phase-lacking a b n g pos 0 0 (n - g) (omega arith))
 
   pub fill-start : (buffer : List ℕ) (phase : ℕ) → g < n → phase ≡ (0 + (n - g)) % n → FillAt a b n g buffer buffer phase 0 0
   unfolding upto

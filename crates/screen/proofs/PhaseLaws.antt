@@ -2,7 +2,7 @@
 -- Assumes nothing.
 use Prim.Native.Nat.{ℕ, _+_, _*_, _%_, _<_}
 use mathlib.Core.Path.{_≡_, sym, ap, _∙_}
-use native.Mathlib.Nat.{mul-zero, mul-one, mul-comm, zero-add, add-zero, mod-lt, mod-mod, mod-add-mod, add-mod-mod, add-mul-mod-self-left}
+use native.Mathlib.Nat.{mul-zero, mul-one, mul-comm, zero-add, add-zero, mod-lt, mod-add-mod, add-mod-mod, add-mul-mod-self-left}
 use native.Mathlib.Omega.{arith}
 use Rattle.arith.specs.Remainder.{remainderOf}
 use Rattle.arith.proofs.RemainderLaws.{remainder-below, remainder-words, remainder-only, remainder-on}
@@ -21,13 +21,17 @@ module _ (a b n g : ℕ) (pos : 0 < n) where
   unfolding phaseOf
   phase-only x y p l e = remainder-only (a * x + b * y) g n p l e
 
-  -- it may be carried from the remainder of a * x + b * y by what g lacks to n
-  pub phase-carried : (x y lacking : ℕ) → lacking + g ≡ n → ((a * x + b * y) % n + lacking) % n ≡ phaseOf a b n g x y
-  phase-carried x y lacking e =
-      let r : ℕ = (a * x + b * y) % n in
-      let q : r + lacking + g ≡ r + n * 1 = omega (arith, e) in
-      phase-only x y ((r + lacking) % n) (mod-lt _ pos)
-      (mod-add-mod (r + lacking) n g ∙ ap (λ (z : ℕ). z % n) q ∙ add-mul-mod-self-left r n 1 ∙ mod-mod (a * x + b * y) n)
+  -- instead of taking g off, what it lacks to n may be added, and both parts reduced first
+  pub phase-lacking : (x y lacking : ℕ) → lacking + g ≡ n → (a * x + (b * y + lacking)) % n ≡ phaseOf a b n g x y
+  phase-lacking x y lacking e =
+      let s : ℕ = a * x + (b * y + lacking) in
+      let q : s + g ≡ a * x + b * y + n * 1 = omega (arith, e) in
+      phase-only x y (s % n) (mod-lt s pos)
+      (mod-add-mod s n g ∙ ap (λ (z : ℕ). z % n) q ∙ add-mul-mod-self-left (a * x + b * y) n 1)
+
+  pub phase-apart : (x y lacking : ℕ) → lacking + g ≡ n → (a * x % n + (b * y + lacking) % n) % n ≡ phaseOf a b n g x y
+  phase-apart x y lacking e =
+      mod-add-mod (a * x) n ((b * y + lacking) % n) ∙ add-mod-mod (a * x) (b * y + lacking) n ∙ phase-lacking x y lacking e
 
   -- places of one phase have one remainder of a * x + b * y
   pub phase-same : (x y x′ y′ : ℕ) → phaseOf a b n g x y ≡ phaseOf a b n g x′ y′ → (a * x + b * y) % n ≡ (a * x′ + b * y′) % n

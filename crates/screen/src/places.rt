@@ -47,11 +47,13 @@ fn place_refusal(s: Screen, x: u32, y: u32) -> u32
 }
 
 // The remainder by n of a * x + b * y - g. Instead of taking g off, what it lacks to n is added, so that
-// nothing falls below 0 and a second division is saved.
+// nothing falls below 0. One division would do; with two, the compiler makes faster code of `render`, which
+// is handed a phase for each row.
 fn phase_of(a: u32, b: u32, n: u32, g: u32, x: u32, y: u32) -> u32
     requires { ⌜ (a ≤ 64) × (b ≤ 64) × (0 < n) × (n ≤ 4096) × (g < n) × (x < 65536) × (y < 65536) ⌝ }
     ensures { λ r. ⌜ r ≡ phaseOf a b n g x y ⌝ }
 {
-    let ahead = (a * x + b * y) % n;
-    carry(ahead, n - g, n)
+    let ahead = a * x % n;
+    let below = (b * y + (n - g)) % n;
+    carry(ahead, below, n)
 }
