@@ -17,7 +17,7 @@ enum { VALUES = 24, SETS = 255, RECORDS = 3 * SETS, SHEET = 65536, GUARDS = 2, U
 static const cavzemil_screen screen = {
     .a = 4, .b = 7, .n = N, .k = 3, .g = 5, .columns = 15, .rows = 2, .shift = 4,
 };
-/* The last of them stores 26 columns, which lead as far along a row as 11 do. */
+/* The shift that the last of them stores fits the equation of rule 3.3 as 4 does, but is beyond the columns. */
 static const struct { const char *call; cavzemil_screen s; } refused[] = {
     {"slope 4/8", {.a = 4, .b = 8, .n = N, .k = 3, .g = 5, .columns = 1, .rows = 2, .shift = 3}},
     {"4097 cells", {.a = 4, .b = 7, .n = 4097, .k = 3, .g = 5, .columns = 4, .rows = 5, .shift = 6}},

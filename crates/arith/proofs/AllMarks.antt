@@ -16,8 +16,8 @@ marks =
     record {
       gcd-6 = refl;
       common = λ law. law 12 18;
-      remainder-98 = refl;
-      words = λ law. law 0 7 105 (omega arith);
+      remainder-72 = refl;
+      words = λ law. law 7 40 105 (omega arith);
       in-order = refl;
       falls-law = λ law. law 8 counted .falls 1 (omega arith);
       ties-law = λ law. law 8 counted .ties 1 (omega arith) refl;

@@ -24,7 +24,7 @@ below-divisor {n} {d} p l = go (eq-zero-or-pos d)
     go (inr h) = absurd (not-le-of-lt l (le-of-dvd h p))
 
 -- the same number may be added on both sides, and taken off again
-pub remainder-plus : (n u v k : ℕ) → u % n ≡ v % n → (u + k) % n ≡ (v + k) % n
+remainder-plus : (n u v k : ℕ) → u % n ≡ v % n → (u + k) % n ≡ (v + k) % n
 remainder-plus n u v k e = sym (mod-add-mod u n k) ∙ ap (λ (r : ℕ). (r + k) % n) e ∙ mod-add-mod v n k
 
 pub remainder-minus : (n u v k : ℕ) → 0 < n → (u + k) % n ≡ (v + k) % n → u % n ≡ v % n

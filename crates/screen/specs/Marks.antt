@@ -1,5 +1,5 @@
--- Rules 12.1, 12.2, 12.18 and 12.19, the worked examples of bricks, phases and stored numbers, and small cases of what the calls and
--- the laws say.
+-- Rules 12.1, 12.2, 12.12, 12.18 and 12.19, the worked examples of bricks, phases and stored numbers, and small cases of what the
+-- calls and the laws say.
 -- proofs/AllMarks.antt shows them by computing the definitions.
 -- Assumes nothing: these are statements.
 use Prim.Native.Nat.{ℕ}

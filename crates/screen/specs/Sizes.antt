@@ -14,6 +14,6 @@ rowsOf a n = gcdOf a n
 abbrev pub columnsOf : ℕ → ℕ → ℕ
 columnsOf a n = n / rowsOf a n
 
--- Rule 3.3, the shift S: the first number below L with (a × S + b × H) mod N = 0. That there is exactly one is `ShiftOnly` (Laws.antt).
+-- rule 3.3: the shift S, the first number below L with (a × S + b × H) mod N = 0; that there is one alone is `ShiftOnly` (Laws.antt)
 unfoldable pub shiftOf : ℕ → ℕ → ℕ → ℕ
 shiftOf a b n = firstBelow (columnsOf a n) (λ t. eqb ((a * t + b * rowsOf a n) % n) 0)

@@ -119,8 +119,7 @@ fn screen_of(a: u32, b: u32, n: u32, k: u32, g: u32) -> Screen
     }
 }
 
-// The first number of columns to the right that lead, after H rows down, to the phase set out from: the
-// shift.
+// The shift: the first number of columns that, with H rows down, lead to the phase that one set out from.
 fn shift_of(a: u32, b: u32, n: u32, rows: u32) -> u32
     requires { ⌜ (b ≤ 64) × (0 < n) × (n ≤ 4096) × (rows ≡ rowsOf a n) ⌝ }
     ensures { λ r. ⌜ r ≡ shiftOf a b n ⌝ }

@@ -53,7 +53,7 @@ fn phase_of(a: u32, b: u32, n: u32, g: u32, x: u32, y: u32) -> u32
     requires { ⌜ (a ≤ 64) × (b ≤ 64) × (0 < n) × (n ≤ 4096) × (g < n) × (x < 65536) × (y < 65536) ⌝ }
     ensures { λ r. ⌜ r ≡ phaseOf a b n g x y ⌝ }
 {
-    let ahead = a * x % n;
-    let below = (b * y + (n - g)) % n;
-    carry(ahead, below, n)
+    let right = a * x % n;
+    let down = (b * y + (n - g)) % n;
+    carry(right, down, n)
 }

@@ -20,13 +20,13 @@ fn greatest_common_divisor(first: u32, second: u32) -> u32 {
     }
 }
 
-/// The shift S, from 0 to L − 1: a × S + b × H is a multiple of N (rule 3.3). So a × S is what b × H lacks to
-/// one, and since a × L is a multiple of N too, the first of these that a divides tells S.
+/// The shift S, from 0 to L − 1: N divides a × S + b × H (rule 3.3). So a × S is how far b × H is from some
+/// multiple of N above it, and since a × L is a multiple of N too, the first such gap that a divides tells S.
 fn shift(a: u32, b: u32, n: u32, columns: u32, rows: u32) -> u32 {
-    let lacking = n - b * rows % n;
-    let mut lacks = (0..a).map(|times| lacking + times * n);
+    let first = n - b * rows % n;
+    let mut gaps = (0..a).map(|times| first + times * n);
     let multiple =
-        lacks.find(|lack| lack.is_multiple_of(a)).expect("an admitted slope and cell count have a shift");
+        gaps.find(|gap| gap.is_multiple_of(a)).expect("an admitted slope and cell count have a shift");
     multiple / a % columns
 }
 

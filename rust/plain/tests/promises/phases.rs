@@ -11,6 +11,7 @@ fn draw_start(random: &mut Random, steps: u32) -> u32 {
     random.one_of(&[0, last, any])
 }
 
+/// From drawn places of drawn screens: a step right, a step down, along a line, and a brick right and down.
 #[test]
 fn steps_lead_to_the_phases_due() {
     let mut random = Random::new(31);

@@ -8,23 +8,23 @@ use Rattle.screen.proofs.PhaseLaws.{phase-apart}
 use Rattle.screen.proofs.places.phase_of.Statement.{statement}
 use Rattle.screen.proofs.places.phase_of.Tie as tie
 
-mul-ahead : tie.Need-mul-ahead
-mul-ahead c = omega (arith, mul-le-mul (c .pre .0) (le-of-lt (c .pre .5)))
+mul-right : tie.Need-mul-right
+mul-right c = omega (arith, mul-le-mul (c .pre .0) (le-of-lt (c .pre .5)))
 
-rem-ahead : tie.Need-rem-ahead
-rem-ahead c = search needs
+rem-right : tie.Need-rem-right
+rem-right c = search needs
 
-mul-below : tie.Need-mul-below
-mul-below c = omega (arith, mul-le-mul (c .pre .1) (le-of-lt (c .pre .6)))
+mul-down : tie.Need-mul-down
+mul-down c = omega (arith, mul-le-mul (c .pre .1) (le-of-lt (c .pre .6)))
 
-sub-below : tie.Need-sub-below
-sub-below c = omega arith
+sub-down : tie.Need-sub-down
+sub-down c = omega arith
 
-add-below : tie.Need-add-below
-add-below c = omega (arith, mul-le-mul (c .pre .1) (le-of-lt (c .pre .6)))
+add-down : tie.Need-add-down
+add-down c = omega (arith, mul-le-mul (c .pre .1) (le-of-lt (c .pre .6)))
 
-rem-below : tie.Need-rem-below
-rem-below c = search needs
+rem-down : tie.Need-rem-down
+rem-down c = search needs
 
 carry-requires : tie.Need-carry-requires
 carry-requires c κs = (mod-lt _ (c .pre .2), le-of-lt (mod-lt _ (c .pre .2)), c .pre .3)
@@ -35,4 +35,4 @@ returns c = c .carry .ensures .0 ∙ phase-apart _ _ _ _ (c .before .pre .2) _ _
 pub phase-of-spec : {M : Type 1} → statement M
 phase-of-spec =
     tie.close
-    (tie.spec mul-ahead rem-ahead mul-below sub-below add-below rem-below carry-requires returns)
+    (tie.spec mul-right rem-right mul-down sub-down add-down rem-down carry-requires returns)
