@@ -72,14 +72,14 @@ module _ (n : ℕ) (passes : ℕ → Bool) where
 
 -- A loop that counts up to the first number: it has not passed it, and goes on exactly while the test fails.
 module _ (n : ℕ) (passes : ℕ → Bool) (i : ℕ) (up-to : i ≤ firstBelow n passes) where
-  pub first-ahead : i < n → passes i ≡ false → i < firstBelow n passes
+  first-ahead : i < n → passes i ≡ false → i < firstBelow n passes
   first-ahead l e = go (eq-or-lt-of-le up-to)
     where
       go : (i ≡ firstBelow n passes) ⊎ (i < firstBelow n passes) → i < firstBelow n passes
       go (inl q) = absurd (true≢false (sym (first-passes n passes (omega arith)) ∙ ap passes (sym q) ∙ e))
       go (inr h) = h
 
-  pub first-reached : passes i ≡ true → i ≡ firstBelow n passes
+  first-reached : passes i ≡ true → i ≡ firstBelow n passes
   first-reached e = go (eq-or-lt-of-le up-to)
     where
       go : (i ≡ firstBelow n passes) ⊎ (i < firstBelow n passes) → i ≡ firstBelow n passes

@@ -1,40 +1,46 @@
--- The loop of `shift_of` over plain numbers: it has not passed the shift, and knows how far it has come.
+-- The loop of `shift_of` over plain numbers: it goes through those with the remainder of a * S, and has not passed a * S.
 -- Assumes nothing.
-use Prim.Native.Nat.{ℕ, _+_, _*_, _%_, _≤_, _<_}
+use Prim.Native.Nat.{ℕ, _+_, _-_, _*_, _/_, _%_, _≤_, _<_}
 use mathlib.Core.Path.{_≡_, sym, ap, _∙_}
-use native.Mathlib.Nat.{mul-zero, zero-add, mod-lt, mod-add-mod, add-mod-mod}
+use native.Mathlib.Nat.{pos-of-ne-zero, le-of-dvd, le-of-mul-le-mul-left, mod-le, mod-mod, add-mul-mod-self-left, div-add-mod, mul-div-cancel', dvd-mul-right, dvd-of-mod-eq-zero, mod-eq-zero-of-dvd}
 use native.Mathlib.Omega.{arith}
-use borrow.Author.Tests.{eq-eqb, ne-eqb}
-use Rattle.arith.proofs.FirstLaws.{first-ahead, first-reached}
-use Rattle.screen.specs.Sizes.{rowsOf, columnsOf, shiftOf}
-use Rattle.screen.proofs.BrickLaws.{shift-below}
+use Rattle.arith.proofs.RemainderLaws.{same-remainder, remainder-minus}
+use Rattle.screen.specs.Sizes.{rowsOf, shiftOf}
+use Rattle.screen.proofs.BrickLaws.{column-only, shift-below, shift-words}
 
--- t columns on and H rows down, the remainder is `reached`
-pub record ShiftAt (a b n reached t : ℕ) : Type 0 where
-  pub up-to : t ≤ shiftOf a b n
-  pub so-far : reached ≡ (a * t + b * rowsOf a n) % n
+pub record ShiftAt (a b n along : ℕ) : Type 0 where
+  pub up-to : along ≤ a * shiftOf a b n
+  pub so-far : along % n ≡ a * shiftOf a b n % n
 
-pub shift-start : (a b n rows : ℕ) → rows ≡ rowsOf a n → ShiftAt a b n (b * rows % n) 0
-shift-start a b n rows h = record { up-to = omega arith; so-far = rw (mul-zero, zero-add) (ap (λ (r : ℕ). b * r % n) h) }
+-- the smallest is what b * H lacks to a multiple of n
+pub shift-start : (a b n rows lacking : ℕ) → 0 < n → rows ≡ rowsOf a n → lacking + b * rows % n ≡ n → ShiftAt a b n (lacking % n)
+shift-start a b n rows lacking pos h e =
+    let target : ℕ = a * shiftOf a b n in
+    let round : lacking + b * rows ≡ n * (b * rows / n + 1) = omega (arith, e, div-add-mod (b * rows) n) in
+    let level : (lacking + b * rows) % n ≡ (target + b * rows) % n = ap (λ (z : ℕ). z % n) round ∙ mod-eq-zero-of-dvd n (dvd-mul-right n (b * rows / n + 1)) ∙ sym (rw h (shift-words a b n pos)) in
+    let same : lacking % n ≡ target % n = remainder-minus n lacking target (b * rows) pos level in
+    record { up-to = rw same (mod-le target n); so-far = mod-mod lacking n ∙ same }
 
-module _ {a b n reached t : ℕ} (s : ShiftAt a b n reached t) where
-  pub reached-below : 0 < n → reached < n
-  reached-below pos = rw (s .so-far) (mod-lt _ pos)
-
-  pub shift-ahead : 0 < n → (reached ≡ 0 → ⊥) → t < shiftOf a b n
-  unfolding shiftOf
+module _ {a b n along : ℕ} (s : ShiftAt a b n along) where
+  -- where a does not divide it, it is n or more below a * S
+  pub shift-ahead : 0 < n → (along % a ≡ 0 → ⊥) → along + n ≤ a * shiftOf a b n
   shift-ahead pos on =
-      first-ahead (columnsOf a n) _ t (s .up-to) (omega (arith, s .up-to, shift-below a b n pos)) (ne-eqb _ _ (λ e. on (s .so-far ∙ e)))
+      let target : ℕ = a * shiftOf a b n in
+      let short : 0 < target - along = pos-of-ne-zero (λ z. on (mod-eq-zero-of-dvd a (rw (reached z) (dvd-mul-right a (shiftOf a b n))))) in
+      omega (arith, s .up-to, le-of-dvd short (same-remainder n along target (s .so-far)))
+    where
+      reached : a * shiftOf a b n - along ≡ 0 → along ≡ a * shiftOf a b n
+      reached z = omega (arith, s .up-to, z)
 
-  pub shift-step : (next : ℕ) → t < shiftOf a b n → next ≡ (reached + a % n) % n → ShiftAt a b n next (t + 1)
-  shift-step next l e =
-      record {
-        up-to = omega arith;
-        so-far =
-            e ∙ ap (λ (r : ℕ). (r + a % n) % n) (s .so-far) ∙ mod-add-mod (a * t + b * rowsOf a n) n (a % n) ∙ add-mod-mod (a * t + b * rowsOf a n) a n
-            ∙ ap (λ (z : ℕ). z % n) (omega arith);
-      }
+  pub shift-step : along + n ≤ a * shiftOf a b n → ShiftAt a b n (along + n)
+  shift-step l =
+      let q : along + n ≡ along + n * 1 = omega arith in
+      record { up-to = l; so-far = ap (λ (z : ℕ). z % n) q ∙ add-mul-mod-self-left along n 1 ∙ s .so-far }
 
-  pub shift-end : reached ≡ 0 → t ≡ shiftOf a b n
-  unfolding shiftOf
-  shift-end e = first-reached (columnsOf a n) _ t (s .up-to) (eq-eqb _ _ (sym (s .so-far) ∙ e))
+  -- where a divides it, it is a * S, since no other column of the brick leads as far
+  pub shift-end : 0 < a → 0 < n → along % a ≡ 0 → along / a ≡ shiftOf a b n
+  shift-end some pos e =
+      let whole : a * (along / a) ≡ along = mul-div-cancel' a (dvd-of-mod-eq-zero a e) in
+      let near : along / a ≤ shiftOf a b n = le-of-mul-le-mul-left (rw whole (s .up-to)) some in
+      let below : shiftOf a b n < _ = shift-below a b n pos in
+      column-only a n pos (along / a) (shiftOf a b n) (omega (arith, near, below)) below (rw whole (s .so-far))

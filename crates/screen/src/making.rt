@@ -5,7 +5,6 @@ ghost use Rattle.screen.specs.Sizes.{rowsOf, shiftOf};
 ghost use Rattle.screen.specs.Screens.{screenOf};
 ghost use Rattle.screen.specs.Made.{madeOf, replacedBy, offsetReplaced, subscreensReplaced, cellsReplaced};
 use crate::Screen;
-use crate::bricks::carry;
 use crate::numbers_refusal;
 use crate::refusal;
 
@@ -103,7 +102,7 @@ fn replaced_by(s: Screen, n: u32, k: u32, g: u32) -> Made
 
 // The screen of five admitted numbers.
 fn screen_of(a: u32, b: u32, n: u32, k: u32, g: u32) -> Screen
-    requires { ⌜ (b ≤ 64) × (0 < n) × (n ≤ 4096) ⌝ }
+    requires { ⌜ (0 < a) × (a < b) × (b ≤ 64) × (0 < n) × (n ≤ 4096) ⌝ }
     ensures { λ r. ⌜ r ≡ screenOf a b n k g ⌝ }
 {
     let rows = arith::gcd(a, n);
@@ -119,17 +118,15 @@ fn screen_of(a: u32, b: u32, n: u32, k: u32, g: u32) -> Screen
     }
 }
 
-// The shift: the first number of columns that, with H rows down, lead to the phase that one set out from.
+// The shift. As S columns and H rows down lead to the same phase, a * S is what b * H lacks to a multiple of
+// n: of all such numbers, which are n apart, the first that a divides. At most a of them are tried.
 fn shift_of(a: u32, b: u32, n: u32, rows: u32) -> u32
-    requires { ⌜ (b ≤ 64) × (0 < n) × (n ≤ 4096) × (rows ≡ rowsOf a n) ⌝ }
+    requires { ⌜ (0 < a) × (a < b) × (b ≤ 64) × (0 < n) × (n ≤ 4096) × (rows ≡ rowsOf a n) ⌝ }
     ensures { λ r. ⌜ r ≡ shiftOf a b n ⌝ }
 {
-    let right = a % n;
-    let mut reached = b * rows % n;
-    let mut shift = 0;
-    while reached != 0 {
-        reached = carry(reached, right, n);
-        shift += 1;
+    let mut along = (n - b * rows % n) % n;
+    while along % a != 0 {
+        along += n;
     }
-    shift
+    along / a
 }

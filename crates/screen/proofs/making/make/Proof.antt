@@ -19,7 +19,7 @@ screen-of-requires : tie.Need-screen-of-requires
 screen-of-requires c κs =
     let start = c .before .before in
     let limits = limits-of (screenOf (start .args .a) (start .args .b) (start .args .n) (start .args .k) (start .args .g)) (sym (c .before .numbers-refusal .ensures) ∙ c .if1 .left) in
-    (limits .slope-limit, limits .cells-above, limits .cells-limit)
+    (limits .slope-above, limits .slope-below, limits .slope-limit, limits .cells-above, limits .cells-limit)
 
 returns-2 : tie.Need-returns-2
 returns-2 c =

@@ -31,7 +31,7 @@ screen-of-requires c κs =
     let start = later .before .before .before .before in
     let s = start .args .s in
     let limits = limits-of (screenOf (s .a) (s .b) (start .args .n) (start .args .k) (start .args .g)) (sym (later .before .numbers-refusal .ensures) ∙ later .if2 .left) in
-    (limits .slope-limit, limits .cells-above, limits .cells-limit)
+    (limits .slope-above, limits .slope-below, limits .slope-limit, limits .cells-above, limits .cells-limit)
 
 returns-3 : tie.Need-returns-3
 returns-3 c =

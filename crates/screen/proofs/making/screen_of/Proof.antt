@@ -8,12 +8,12 @@ gcd-requires : tie.Need-gcd-requires
 gcd-requires c κs = search needs
 
 div-t7 : tie.Need-div-t7
-div-t7 c = rw (c .gcd .ensures) (rows-pos _ _ (c .before .pre .1))
+div-t7 c = rw (c .gcd .ensures) (rows-pos _ _ (c .before .pre .3))
 
 shift-of-requires : tie.Need-shift-of-requires
 shift-of-requires c κs =
     let limits = c .before .pre in
-    (limits .0, limits .1, limits .2, c .gcd .ensures)
+    (limits .0, limits .1, limits .2, limits .3, limits .4, c .gcd .ensures)
 
 returns : tie.Need-returns
 returns c = rw (c .before .gcd .ensures, c .shift-of .ensures)
