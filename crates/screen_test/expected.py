@@ -20,6 +20,11 @@ def made_answer(r, s):
     return f"{r} {numbers(s)}"
 
 
+def phases_in(s, starts, rows):
+    """The phases of columns from column 0 on, of so many rows each, by the row at which each begins."""
+    return [phase(s, x, y) for x, start in enumerate(starts) for y in range(start, start + rows)]
+
+
 def show(s):
     answers = brick_answer(s), f"{place(s, 0, 1)}, {place(s, 3, 2)}", made_answer(*made(*s[:5]))
     print(f"{five(s)}: {refusal(s)}; {'; '.join(answers)}")
@@ -74,6 +79,11 @@ for columns, rows, shift in [(35, 2, 21), (36, 2, 14), (35, 1, 14), (35, 2, 49)]
     assert place(example, 65536, 0) == "15 0"
     assert refusal(example._replace(k=17)) == 3
 
+# and of rules 12.20 and 12.21
+example = phases_in(Screen(4, 7, 105, 2, 0), [0, 3, 1, 9, 2, 2, 40], 15)
+assert sorted(example) == list(range(105)) and (example[90], example[104]) == (94, 87)
+assert phases_in(Screen(4, 7, 104, 2, 0), [0] * 7, 14).count(0) == 2
+
 print("# a b n k g: refusal; L H S; refusal and phase of (0, 1), of (3, 2); made: refusal, screen")
 for screen in [
     (4, 7, 105, 2, 0), (4, 7, 70, 2, 0), (1, 2, 1, 1, 0),
@@ -92,6 +102,7 @@ for screen, x, y in [
     ((4, 7, 105, 2, 0), 0, 0), ((4, 7, 105, 2, 0), 65535, 0), ((4, 7, 105, 2, 0), 65536, 0),
     ((4, 7, 105, 2, 0), 0, 65535), ((4, 7, 105, 2, 0), 0, 65536), ((4, 7, 105, 2, 0), 65535, 65535),
     ((4, 7, 105, 2, 0), TOP, TOP), ((4, 7, 105, 2, 104), 65535, 65535), ((4, 7, 70, 2, 70), 65536, 65536),
+    ((4, 7, 105, 2, 0), 6, 40), ((4, 7, 105, 2, 0), 6, 54), ((4, 7, 104, 2, 0), 0, 0), ((4, 7, 104, 2, 0), 5, 12),
 ]:
     show_place(screen_of(*screen), x, y)
 

@@ -57,4 +57,4 @@ pub use screen::Brick;
 /// ```
 /// assert_eq!(cavzemil::calls::rules(), cavzemil::RULES);
 /// ```
-pub const RULES: u32 = 5;
+pub const RULES: u32 = 6;

@@ -4,7 +4,7 @@ use Prim.Native.Nat.{ℕ, zero, suc, _+_, _-_, _*_, _/_, _%_, _≤_, _<_}
 use mathlib.Core.Path.{_≡_, refl, sym, ap, ap₂, _∙_}
 use mathlib.Core.Logic.{_⊎_, inl, inr, _≢_}
 use mathlib.Core.Bool.{cond}
-use native.Mathlib.Nat.{le-refl, le-step, le-of-suc-le-suc, not-suc-le-zero, eq-or-lt-of-le, ne-of-lt, add-zero, add-suc, sub-add-cancel, add-sub-of-le, zero-mul, mul-zero, mul-one, suc-mul}
+use native.Mathlib.Nat.{le-refl, le-step, le-of-suc-le-suc, not-suc-le-zero, eq-or-lt-of-le, ne-of-lt, add-zero, add-suc, sub-add-cancel, add-sub-of-le, zero-mul, mul-zero, mul-one, suc-mul, mod-lt, div-add-mod', div-lt-iff-lt-mul}
 use native.Mathlib.Numerals.{add-one}
 use native.Mathlib.Decide.{ℕ-discrete, decLt}
 use native.Mathlib.Omega.{arith}
@@ -226,6 +226,23 @@ each-once n h low apart =
     sum-full n (λ t. sumBelow n (λ i. indicator (eqb (h i) t))) (λ t l. sum-once n h t apart)
     (sum-exchange n n (λ t i. indicator (eqb (h i) t)) ∙ sum-constant n 1 _ (λ i l. sum-met n (h i) (low i l)) ∙ omega arith)
 
+-- EACH EXACTLY ONCE, by rows: a map of the k places (i, j) of m rows of n to the numbers below k that takes no value twice
+pub each-placed-once : (m n k : ℕ) (h : ℕ → ℕ → ℕ) → m * n ≡ k → 0 < n → ((i j : ℕ) → h i j < k)
+    → ((i j i′ j′ : ℕ) → i < m → j < n → i′ < m → j′ < n → h i j ≡ h i′ j′ → (i ≡ i′) × (j ≡ j′))
+    → (t : ℕ) → t < k → sumBelow m (λ i. sumBelow n (λ j. indicator (eqb (h i j) t))) ≡ 1
+each-placed-once m n k h size pos low apart t l =
+    sum-places m n (λ i j. indicator (eqb (h i j) t))
+    ∙ ap (λ (z : ℕ). sumBelow z (λ c. indicator (eqb (h (c / n) (c % n)) t))) size
+    ∙ each-once k (λ c. h (c / n) (c % n)) (λ c _. low (c / n) (c % n)) same t l
+  where
+    row : (c : ℕ) → c < k → c / n < m
+    row c p = div-lt-iff-lt-mul pos .1 (rw size p)
+
+    same : (c d : ℕ) → c < k → d < k → h (c / n) (c % n) ≡ h (d / n) (d % n) → c ≡ d
+    same c d p q e =
+        let both = apart _ _ _ _ (row c p) (mod-lt c pos) (row d q) (mod-lt d pos) e in
+        sym (div-add-mod' c n) ∙ ap₂ (λ (r u : ℕ). r * n + u) (both .0) (both .1) ∙ div-add-mod' d n
+
 -- A SUM ALONG a map that meets each number below k once is the sum over the numbers below k
 pub sum-along : (n k : ℕ) (h g : ℕ → ℕ) → ((i : ℕ) → i < n → h i < k) → ((t : ℕ) → t < k → sumBelow n (λ i. indicator (eqb (h i) t)) ≡ 1)
     → sumBelow n (λ i. g (h i)) ≡ sumBelow k g
@@ -240,6 +257,15 @@ sum-along n k h g low once =
         (λ t l f. ap (λ (c : ℕ). g t * c) (indicator-none (λ e. f (sym e))) ∙ mul-zero (g t))
         ∙ ap (λ (c : ℕ). g (h i) * c) (indicator-one {a = h i} refl)
         ∙ mul-one (g (h i))
+
+-- and by rows
+pub sum-along-places : (m n k : ℕ) (h : ℕ → ℕ → ℕ) (g : ℕ → ℕ) → ((i j : ℕ) → h i j < k)
+    → ((t : ℕ) → t < k → sumBelow m (λ i. sumBelow n (λ j. indicator (eqb (h i j) t))) ≡ 1)
+    → sumBelow m (λ i. sumBelow n (λ j. g (h i j))) ≡ sumBelow k g
+sum-along-places m n k h g low once =
+    sum-places m n (λ i j. g (h i j))
+    ∙ sum-along (m * n) k (λ c. h (c / n) (c % n)) g (λ c _. low (c / n) (c % n))
+    (λ t l. sym (sum-places m n (λ i j. indicator (eqb (h i j) t))) ∙ once t l)
 
 -- OF NUMBERS THAT ADD UP TO ONE OF THEM the others are 0
 pub sum-alone : (n : ℕ) (f : ℕ → ℕ) (h : ℕ) → h < n → sumBelow n f ≡ f h → (k : ℕ) → k < n → (k ≡ h → ⊥) → f k ≡ 0

@@ -26,5 +26,5 @@ pub record Marks : Type 0 where
   -- what the law of the order says of its second and its third
   pub falls-law : OrderFalls → 26 ≤ 26
   pub ties-law : OrderFalls → 0 < 1
-  -- rule 14.1: the ink bill, cellular prediction, stored numbers, the bit mask, and lines that rise
-  pub in-force : rulesInForce ≡ 5
+  -- rule 14.1: the ink bill, cellular prediction, stored numbers, the bit mask, lines that rise, and motifs
+  pub in-force : rulesInForce ≡ 6

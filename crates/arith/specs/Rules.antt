@@ -4,4 +4,4 @@ use Prim.Native.Nat.{ℕ}
 
 -- rule 14.1: how many of the change requests, taken in their order, the rules have in them
 abbrev pub rulesInForce : ℕ
-rulesInForce = 5
+rulesInForce = 6

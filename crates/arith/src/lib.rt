@@ -33,5 +33,5 @@ pub fn coprime(a: u32, b: u32) -> bool
 pub fn rules_in_force() -> u32
     ensures { λ r. ⌜ r ≡ rulesInForce ⌝ }
 {
-    5
+    6
 }

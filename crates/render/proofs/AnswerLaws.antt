@@ -1,12 +1,13 @@
 -- What the renderers answer and leave in the output, refused, empty or rendered; and what the functions below them ask.
 -- Assumes nothing.
-use Prim.Native.Nat.{ℕ, _+_, _*_, _/_, _%_, _≤_}
+use Prim.Native.Nat.{ℕ, _+_, _*_, _/_, _%_, _≤_, _<_}
 use mathlib.Core.Path.{_≡_, refl, sym, ap, ap₂, _∙_}
 use mathlib.Core.Logic.{_⊎_, inl, inr}
 use mathlib.Core.List.{List, [], _∷_}
-use native.Mathlib.Nat.{pos-of-ne-zero, add-zero, zero-mul}
+use native.Mathlib.Nat.{pos-of-ne-zero, add-zero, zero-mul, mul-comm}
 use native.Mathlib.Decide.{ℕ-discrete}
 use native.Mathlib.Omega.{arith}
+use lib.Arith.{digits-lt, digits-div, digits-mod}
 use lib.ListN.{length, getD}
 use borrow.Author.Tests.{eq-eqb, ne-eqb}
 use Rattle.arith.specs.Run.{upto, zeros}
@@ -93,6 +94,14 @@ module _ (s : Screen) (sep : Separation) (w : Window) (input : List ℕ) where
   pub cells-length : length (windowCells s sep w input) ≡ area w
   unfolding windowCells
   cells-length = upto-length _ (area w)
+
+  -- the cell in column c and row r of the window
+  pub cells-at : (c r : ℕ) → c < w .columns → r < w .rows
+      → getD (windowCells s sep w input) (r * w .columns + c) 0 ≡ cellOf s sep (w .x + c) (w .y + r) (inksAt input (r * w .columns + c))
+  unfolding windowCells windowCell
+  cells-at c r across down =
+      upto-at (windowCell s sep w input) (area w) (r * w .columns + c) (rw (mul-comm (w .columns) (w .rows)) (digits-lt down across))
+      ∙ ap₂ (λ (i j : ℕ). cellOf s sep (w .x + i) (w .y + j) (inksAt input (r * w .columns + c))) (digits-mod r across) (digits-div r across)
 
   -- cells by the phases of their places are the window's
   pub cells-are : (f : ℕ → ℕ) → ((i : ℕ) → f i ≡ phase s (w .x + i % w .columns) (w .y + i / w .columns)) → (cells : ℕ) {out : List ℕ}

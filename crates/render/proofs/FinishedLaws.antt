@@ -2,13 +2,13 @@
 -- over the phases, which counts them as the quantiser does; and a true brick leaves a window's refusal as it is, so that the two agree.
 -- Assumes nothing.
 use Prim.Native.Nat.{ℕ, _+_, _*_, _/_, _%_, _≤_, _<_}
-use mathlib.Core.Path.{_≡_, sym, ap, ap₂, _∙_}
+use mathlib.Core.Path.{_≡_, sym, ap, _∙_}
 use mathlib.Core.Bool.{_&&_}
 use mathlib.Core.List.{List}
 use native.Mathlib.Nat.{add-assoc, mul-comm}
 use native.Mathlib.Decide.{ℕ-discrete}
 use native.Mathlib.Omega.{arith}
-use lib.Arith.{digits-lt, digits-div, digits-mod}
+use lib.Arith.{digits-lt}
 use lib.Dec.{eqb}
 use lib.ListN.{length, getD}
 use Rattle.arith.specs.Sum.{sumBelow, indicator}
@@ -16,7 +16,7 @@ use Rattle.arith.specs.Tally.{tally}
 use Rattle.arith.specs.Refusal.{written}
 use Rattle.arith.proofs.RefusalLaws.{written-all}
 use Rattle.arith.proofs.RunLaws.{upto-at}
-use Rattle.arith.proofs.SumLaws.{sum-same, sum-places, sum-window, sum-along}
+use Rattle.arith.proofs.SumLaws.{sum-same, sum-places, sum-window, sum-along-places}
 use Rattle.arith.proofs.TallyLaws.{tally-upto}
 use Rattle.screen.specs.declared.Screen.{Screen}
 use Rattle.screen.specs.Screens.{Admitted}
@@ -35,7 +35,7 @@ use Rattle.render.specs.Windows.{area, cellOf, windowCell, windowCells, 
 use Rattle.render.specs.Answers.{windowRefusal, brickRefusal, answerOf, rendering, rendered, brickRendering, brickRendered}
 use Rattle.render.specs.Finished.{Brickwork, Even, FinishedWindow, Agreement, bytesInSubscreen}
 use Rattle.render.proofs.RefusalLaws.{window-whole, window-kept, true-due, brick-window, brick-whole}
-use Rattle.render.proofs.AnswerLaws.{cells-length}
+use Rattle.render.proofs.AnswerLaws.{cells-length, cells-at}
 
 -- ---- sums over cells
 
@@ -44,11 +44,8 @@ module _ (s : Screen) (ok : Admitted s) (g : ℕ → ℕ) (x y : ℕ) where
   brick-sum : (i j : ℕ) → sumBelow (Brick.rows s) (λ r. sumBelow (Brick.columns s) (λ c. g (phase s (x + (i + c)) (y + (j + r))))) ≡ sumBelow (s .n) g
   unfolding times
   brick-sum i j =
-      let h : ℕ = Brick.rows s in
-      let l : ℕ = Brick.columns s in
-      sum-places h l (λ r c. g (phase s (x + (i + c)) (y + (j + r))))
-      ∙ sum-along (h * l) (s .n) (λ k. phase s (x + (i + k % l)) (y + (j + k / l))) g (λ k m. phase-below s ok _ _)
-      (λ p b. sym (sum-places h l (λ r c. indicator (eqb (phase s (x + (i + c)) (y + (j + r))) p))) ∙ simp (← add-assoc) (each-phase-once s ok (x + i) (y + j) p b))
+      sum-along-places (Brick.rows s) (Brick.columns s) (s .n) (λ r c. phase s (x + (i + c)) (y + (j + r))) g (λ r c. phase-below s ok _ _)
+      (λ p b. simp (← add-assoc) (each-phase-once s ok (x + i) (y + j) p b))
 
   -- over a window of u by v bricks: u * v times over the phases
   window-sum : (u v : ℕ) → sumBelow (v * Brick.rows s) (λ r. sumBelow (u * Brick.columns s) (λ c. g (phase s (x + c) (y + r)))) ≡ u * v * sumBelow (s .n) g
@@ -71,12 +68,10 @@ module _ (s : Screen) (sep : Separation) (w : Window) (input out : List ℕ) (in
 
   cell-at : (c r : ℕ) → c < w .columns → r < w .rows
       → getD (windowCells s sep w input) (r * w .columns + c) 0 ≡ colorantOf s sep inks (phase s (w .x + c) (w .y + r))
-  unfolding windowCells
+  unfolding cellOf
   cell-at c r across down =
-      let fits : r * w .columns + c < area w = rw (mul-comm (w .columns) (w .rows)) (digits-lt down across) in
-      upto-at (windowCell s sep w input) (area w) (r * w .columns + c) fits
-      ∙ cell-colorant (r * w .columns + c) fits
-      ∙ ap₂ (λ (i j : ℕ). colorantOf s sep inks (phase s (w .x + i) (w .y + j))) (digits-mod r across) (digits-div r across)
+      cells-at s sep w input c r across down
+      ∙ ap (cellOf s sep (w .x + c) (w .y + r)) (b .one-triple (r * w .columns + c) (rw (mul-comm (w .columns) (w .rows)) (digits-lt down across)))
 
   -- a colorant has u * v times its count of them
   cells-counted : (j : ℕ) → j < 8 → tally j (windowCells s sep w input) ≡ u * v * count s sep inks j

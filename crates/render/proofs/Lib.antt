@@ -6,3 +6,4 @@ mod RowLoop
 mod BrickRow
 mod WindowLoop
 mod FinishedLaws
+mod MotifLaws

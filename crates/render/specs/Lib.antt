@@ -3,4 +3,5 @@ pub mod Answers
 pub mod Laws
 pub mod Rows
 pub mod Finished
+pub mod Motifs
 pub mod Marks

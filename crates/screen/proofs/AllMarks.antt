@@ -1,9 +1,12 @@
 -- The marks, shown by computing the definitions.
 -- Assumes nothing.
 use mathlib.Core.Path.{refl}
+use native.Mathlib.Nat.{mod-eq-zero-of-dvd}
+use native.Mathlib.Omega.{arith}
 use Rattle.arith.specs.Gcd.{gcdOf}
 use Rattle.arith.specs.Remainder.{remainderOf}
 use Rattle.arith.specs.First.{firstBelow}
+use Rattle.arith.specs.Every.{every}
 use Rattle.arith.specs.Run.{upto}
 use Rattle.arith.specs.Sum.{sumBelow}
 use Rattle.arith.specs.Sheet.{onSheet}
@@ -12,11 +15,12 @@ use Rattle.screen.specs.Sizes.{shiftOf}
 use Rattle.screen.specs.Screens.{slopeAdmitted, cellsAdmitted, subscreensAdmitted, offsetAdmitted, numbersRefusal, storedTrue, refusalOf}
 use Rattle.screen.specs.Phase.{phaseOf, placeRefusal}
 use Rattle.screen.specs.Brick.{brickOf, brickPhases, bufferRefusal, filled, brickPlace}
+use Rattle.screen.specs.Motif.{inMotif}
 use Rattle.screen.specs.Made.{madeOf, replacedBy}
 use Rattle.screen.specs.Laws.{times}
 
 pub marks : Marks
-unfolding gcdOf remainderOf firstBelow upto sumBelow onSheet slopeAdmitted cellsAdmitted subscreensAdmitted offsetAdmitted numbersRefusal storedTrue refusalOf phaseOf placeRefusal shiftOf brickOf brickPhases bufferRefusal filled brickPlace madeOf replacedBy times
+unfolding gcdOf remainderOf firstBelow every upto sumBelow onSheet slopeAdmitted cellsAdmitted subscreensAdmitted offsetAdmitted numbersRefusal storedTrue refusalOf phaseOf placeRefusal shiftOf brickOf brickPhases bufferRefusal filled brickPlace inMotif madeOf replacedBy times
 marks =
     record {
       brick-105 = (refl, refl, refl);
@@ -31,6 +35,11 @@ marks =
       place-70 = refl;
       shifted = refl;
       once = refl;
+      motif-94 = refl;
+      motif-87 = refl;
+      motif-all = refl;
+      motif-none = λ d. omega (arith, mod-eq-zero-of-dvd 7 d);
+      motif-twice = refl;
       lowest-3 = refl;
       lowest-1 = refl;
       made = refl;

@@ -3,7 +3,7 @@
 use Prim.Native.Nat.{ℕ, zero, suc, _+_, _-_, _*_, _/_, _%_, _≤_, _<_, _∣_}
 use mathlib.Core.Path.{_≡_, sym, ap, ap₂, _∙_}
 use mathlib.Core.Bool.{Bool}
-use native.Mathlib.Nat.{dvd-antisymm, dvd-of-mod-eq-zero, pos-of-ne-zero, le-of-dvd, lt-of-lt-of-le, div-le-self, mul-zero, mul-suc, mul-sub, add-zero, add-assoc, one-mul, zero-mod, mod-lt, mod-eq-of-lt, add-mod-mod, mod-mod-of-dvd, mod-add-div, div-add-mod', div-lt-iff-lt-mul, mul-div-cancel', dvd-mul-right, dvd-mul-right-of-dvd, dvd-of-mul-dvd-mul-left, add-mul-mod-self-left}
+use native.Mathlib.Nat.{dvd-antisymm, dvd-of-mod-eq-zero, pos-of-ne-zero, le-of-dvd, lt-of-lt-of-le, div-le-self, mul-zero, mul-suc, mul-sub, add-zero, add-assoc, one-mul, zero-mod, mod-eq-of-lt, add-mod-mod, mod-mod-of-dvd, mod-add-div, mul-div-cancel', dvd-mul-right, dvd-mul-right-of-dvd, dvd-of-mul-dvd-mul-left, add-mul-mod-self-left}
 use native.Mathlib.Omega.{arith}
 use lib.Dec.{eqb}
 use borrow.Author.Tests.{eq-eqb, eqb-true}
@@ -13,7 +13,7 @@ use Rattle.arith.specs.First.{firstBelow}
 use Rattle.arith.specs.Sum.{sumBelow, indicator}
 use Rattle.arith.proofs.GcdLaws.{gcd-divides, gcd-scaled, gcd-greatest, gcd-pos, gcd-reduced}
 use Rattle.arith.proofs.RemainderLaws.{same-remainder, below-divisor, remainder-minus, remainder-multiple, remainder-scaled, remainder-words}
-use Rattle.arith.proofs.SumLaws.{sum-same, sum-places, sum-window, each-once}
+use Rattle.arith.proofs.SumLaws.{sum-same, sum-window, each-placed-once}
 use Rattle.arith.proofs.Residues.{residue-once}
 use Rattle.arith.proofs.FirstLaws.{first-found, first-counted, first-passes}
 use Rattle.screen.specs.Phase.{phaseOf}
@@ -162,44 +162,29 @@ module _ (a b n g : ℕ) (unit : gcdOf a b ≡ 1) (pos : 0 < n) where
       rw (unit, one-mul) at (gcd-scaled h (y - y′) a b (dvd-mul-right-of-dvd h h∣a (y - y′)) (rw mul-sub (same-remainder h (b * y′) (b * y) bare)))
 
   module _ (x y : ℕ) where
-    -- the phase of the brick's place k, rows after each other
-    at : ℕ → ℕ
-    at k = phaseOf a b n g (x + k % columnsOf a n) (y + k / columnsOf a n)
-
-    row-of : (k : ℕ) → k < n → k / columnsOf a n < rowsOf a n
-    row-of k l = div-lt-iff-lt-mul (columns-pos a n pos) .1 (rw (brick-size a n pos) l)
-
-    row-same : (i j : ℕ) → i < n → j < n → at i ≡ at j → i / columnsOf a n ≡ j / columnsOf a n
-    unfolding at
-    row-same i j k l e = omega (arith, ahead i j k e, ahead j i l (sym e))
+    -- two places of the brick with one phase are in the same row
+    row-same : (i j i′ j′ : ℕ) → j < rowsOf a n → j′ < rowsOf a n → phaseOf a b n g (x + i) (y + j) ≡ phaseOf a b n g (x + i′) (y + j′) → j ≡ j′
+    row-same i j i′ j′ k l e = omega (arith, ahead i j i′ j′ k e, ahead i′ j′ i j l (sym e))
       where
-        ahead : (i j : ℕ) → i < n → at i ≡ at j → i / columnsOf a n - j / columnsOf a n ≡ 0
-        ahead i j k e =
-            let r : i / columnsOf a n < rowsOf a n = row-of i k in
-            let d : y + i / columnsOf a n - (y + j / columnsOf a n) ≡ i / columnsOf a n - j / columnsOf a n = omega arith in
+        ahead : (i j i′ j′ : ℕ) → j < rowsOf a n → phaseOf a b n g (x + i) (y + j) ≡ phaseOf a b n g (x + i′) (y + j′) → j - j′ ≡ 0
+        ahead i j i′ j′ k e =
+            let d : y + j - (y + j′) ≡ j - j′ = omega arith in
             below-divisor (rw d at (rows-apart _ _ _ _ e)) (omega arith)
 
-    column-same : (i j : ℕ) → i / columnsOf a n ≡ j / columnsOf a n → at i ≡ at j → i % columnsOf a n ≡ j % columnsOf a n
-    unfolding at
-    column-same i j q e =
-        let u : ℕ = i % columnsOf a n in
-        let u′ : ℕ = j % columnsOf a n in
-        let v : ℕ = y + i / columnsOf a n in
-        let level : (a * (x + u) + b * v) % n ≡ (a * (x + u′) + b * v) % n = phase-same a b n g pos (x + u) v (x + u′) v (e ∙ ap (λ (z : ℕ). phaseOf a b n g (x + u′) (y + z)) (sym q)) in
-        let bare : (a * u + (a * x + b * v)) % n ≡ (a * u′ + (a * x + b * v)) % n = ap (λ (z : ℕ). z % n) (omega arith) ∙ level ∙ ap (λ (z : ℕ). z % n) (omega arith) in
-        column-only a n pos u u′ (mod-lt i (columns-pos a n pos)) (mod-lt j (columns-pos a n pos)) (remainder-minus n (a * u) (a * u′) (a * x + b * v) pos bare)
-
-    at-apart : (i j : ℕ) → i < n → j < n → at i ≡ at j → i ≡ j
-    at-apart i j k l e =
-        let q : i / columnsOf a n ≡ j / columnsOf a n = row-same i j k l e in
-        sym (div-add-mod' i (columnsOf a n)) ∙ ap₂ (λ (r u : ℕ). r * columnsOf a n + u) q (column-same i j q e) ∙ div-add-mod' j (columnsOf a n)
+    -- and two of one row in the same column
+    column-same : (i i′ v : ℕ) → i < columnsOf a n → i′ < columnsOf a n → phaseOf a b n g (x + i) v ≡ phaseOf a b n g (x + i′) v → i ≡ i′
+    column-same i i′ v k l e =
+        let level : (a * (x + i) + b * v) % n ≡ (a * (x + i′) + b * v) % n = phase-same a b n g pos (x + i) v (x + i′) v e in
+        let bare : (a * i + (a * x + b * v)) % n ≡ (a * i′ + (a * x + b * v)) % n = ap (λ (z : ℕ). z % n) (omega arith) ∙ level ∙ ap (λ (z : ℕ). z % n) (omega arith) in
+        column-only a n pos i i′ k l (remainder-minus n (a * i) (a * i′) (a * x + b * v) pos bare)
 
     -- IN ANY L COLUMNS BY H ROWS each phase occurs exactly once
     pub phase-once : (p : ℕ) → p < n → sumBelow (rowsOf a n) (λ j. sumBelow (columnsOf a n) (λ i. indicator (eqb (phaseOf a b n g (x + i) (y + j)) p))) ≡ 1
-    unfolding at
-    phase-once p l =
-        sum-places (rowsOf a n) (columnsOf a n) (λ j i. indicator (eqb (phaseOf a b n g (x + i) (y + j)) p))
-        ∙ rw (brick-size a n pos) (each-once n at (λ k _. phase-below a b n g pos _ _) at-apart p l)
+    phase-once =
+        each-placed-once (rowsOf a n) (columnsOf a n) n (λ j i. phaseOf a b n g (x + i) (y + j)) (brick-size a n pos) (columns-pos a n pos) (λ j i. phase-below a b n g pos _ _)
+        (λ j i j′ i′ down across down′ across′ e.
+        let row : j ≡ j′ = row-same i j i′ j′ down down′ e in
+        (row, column-same i i′ (y + j) across across′ (e ∙ ap (λ (z : ℕ). phaseOf a b n g (x + i′) (y + z)) (sym row))))
 
   -- IN u * L COLUMNS BY v * H ROWS exactly u * v times
   pub phase-times : (x y u v p : ℕ) → p < n

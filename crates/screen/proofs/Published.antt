@@ -13,11 +13,13 @@ use Rattle.screen.specs.declared.bricks.Brick.{Brick}
 use Rattle.screen.specs.Screens.{Admitted, Limits}
 use Rattle.screen.specs.Phase.{phase}
 use Rattle.screen.specs.Brick.{rows, columns, shift, brickPhases, brickPlace, filled}
+use Rattle.screen.specs.Motif.{inMotif}
 use Rattle.screen.specs.Made.{madeOf}
-use Rattle.screen.specs.Laws.{AdmittedWords, PhaseBelow, PhaseWords, PhaseOnly, StepsRight, StepRight, StepsDown, StepDown, LinesRise, PlaceOnSheet, PlaceAnswered, BrickSize, PeriodRight, ShiftWords, ShiftOnly, ShiftLaw, BrickAnswered, FilledIsTrue, ReadFromBrick, BufferRefused, times, EachPhaseOnce, EachPhaseTimes, MadeWords, MadeAdmitted, ReplacedAdmitted, RefusedKeeps, OffsetKeeps, SubscreensKeep, CellsKeep, TrueThroughout}
+use Rattle.screen.specs.Laws.{AdmittedWords, PhaseBelow, PhaseWords, PhaseOnly, StepsRight, StepRight, StepsDown, StepDown, LinesRise, PlaceOnSheet, PlaceAnswered, BrickSize, PeriodRight, ShiftWords, ShiftOnly, ShiftLaw, BrickAnswered, FilledIsTrue, ReadFromBrick, BufferRefused, times, EachPhaseOnce, EachPhaseTimes, EachPhaseInMotif, MadeWords, MadeAdmitted, ReplacedAdmitted, RefusedKeeps, OffsetKeeps, SubscreensKeep, CellsKeep, TrueThroughout}
 use Rattle.screen.proofs.Refusals as Refusals
 use Rattle.screen.proofs.PhaseLaws as PhaseLaws
 use Rattle.screen.proofs.BrickLaws as BrickLaws
+use Rattle.screen.proofs.MotifLaws as MotifLaws
 use Rattle.screen.proofs.MadeLaws as MadeLaws
 
 pub admitted-words : AdmittedWords
@@ -121,6 +123,10 @@ each-phase-once s e = BrickLaws.phase-once _ _ _ _ (limits e .slope-lowest) (lim
 pub each-phase-times : EachPhaseTimes
 unfolding times
 each-phase-times s e = BrickLaws.phase-times _ _ _ _ (limits e .slope-lowest) (limits e .cells-above)
+
+pub each-phase-in-motif : EachPhaseInMotif
+unfolding inMotif
+each-phase-in-motif s e divides = MotifLaws.motif-once _ _ _ _ (limits e .slope-lowest) (limits e .cells-above) divides
 
 -- ---- making and replacing
 

@@ -10,6 +10,7 @@ use Rattle.screen.specs.declared.Screen.{Screen}
 use Rattle.screen.specs.Screens.{screenOf, refusalOf, Admitted, Limits, Stored}
 use Rattle.screen.specs.Phase.{phase, placeRefusal, placeOf}
 use Rattle.screen.specs.Brick.{rows, columns, shift, brickOf, bufferRefusal, filled, TrueBrick, placeInBrick}
+use Rattle.screen.specs.Motif.{HasMotifs, inMotif}
 use Rattle.screen.specs.Made.{noScreen, madeOf, offsetReplaced, subscreensReplaced, cellsReplaced, Replacement, replaced, afterAll}
 
 -- ---- screen and phase
@@ -128,6 +129,18 @@ EachPhaseOnce = (s : Screen) → Admitted s → (x y p : ℕ) → p < s .n → O
 abbrev pub EachPhaseTimes : Type 0
 EachPhaseTimes =
     (s : Screen) → Admitted s → (x y u v p : ℕ) → p < s .n → times s x y (u * columns s) (v * rows s) p ≡ u * v
+
+-- how many cells of the motif with these columns and rows have the phase p
+abbrev pub timesInMotif : Screen → ℕ → (ℕ → ℕ) → ℕ → ℕ
+timesInMotif s x start p = inMotif s x start (λ c r. eqb (phase s c r) p)
+
+-- rule 18.2, a motif anywhere has each phase exactly once: one phase, and all
+abbrev pub OnceInMotif : Screen → ℕ → (ℕ → ℕ) → ℕ → Type 0
+OnceInMotif s x start p = timesInMotif s x start p ≡ 1
+
+abbrev pub EachPhaseInMotif : Type 0
+EachPhaseInMotif =
+    (s : Screen) → Admitted s → HasMotifs s → (x : ℕ) (start : ℕ → ℕ) (p : ℕ) → p < s .n → OnceInMotif s x start p
 
 -- ---- making and replacing
 

@@ -1,17 +1,22 @@
--- Rules 12.1, 12.2, 12.12, 12.18 and 12.19, the worked examples of bricks, phases and stored numbers, and small cases of what the
--- calls and the laws say.
+-- Rules 12.1, 12.2, 12.12 and 12.18 to 12.21, the worked examples of bricks, phases, stored numbers and motifs, and small cases of
+-- what the calls and the laws say.
 -- proofs/AllMarks.antt shows them by computing the definitions.
 -- Assumes nothing: these are statements.
 use Prim.Native.Nat.{ℕ}
 use mathlib.Core.Path.{_≡_}
 use mathlib.Core.List.{[], _∷_}
+use mathlib.Core.Bool.{true}
+use lib.Dec.{eqb}
+use lib.ListN.{getD}
+use Rattle.arith.specs.Every.{every}
 use Rattle.screen.specs.declared.Screen.{Screen}
 use Rattle.screen.specs.Sizes.{rowsOf, columnsOf, shiftOf}
 use Rattle.screen.specs.Screens.{screenOf, refusalOf}
 use Rattle.screen.specs.Phase.{phaseOf, placeRefusal}
 use Rattle.screen.specs.Brick.{brickOf, bufferRefusal, filled, placeInBrick}
+use Rattle.screen.specs.Motif.{HasMotifs}
 use Rattle.screen.specs.Made.{madeOf, offsetReplaced, subscreensReplaced, cellsReplaced, offset, subscreens, cells, afterAll}
-use Rattle.screen.specs.Laws.{SteppedDown, Rising, Shifted, Once}
+use Rattle.screen.specs.Laws.{SteppedDown, Rising, Shifted, Once, timesInMotif, OnceInMotif}
 
 -- the screen of rule 12.8's text
 abbrev pub listed : Screen
@@ -32,6 +37,14 @@ filed n k g l h s = record { a = 4; b = 7; n = n; k = k; g = g; columns = l; row
 -- rule 12.19's screen, with K subscreens
 abbrev pub untrue : ℕ → Screen
 untrue k = filed 70 k 0 35 2 21
+
+-- rule 12.20: the rows at which the seven columns of a motif begin
+abbrev pub starts : ℕ → ℕ
+starts i = getD (0 ∷ 3 ∷ 1 ∷ 9 ∷ 2 ∷ 2 ∷ 40 ∷ []) i 0
+
+-- rule 12.21: a screen whose b does not divide N
+abbrev pub undivided : Screen
+undivided = screenOf 4 7 104 2 0
 
 -- the screen of slope a/b and N cells has a brick of L columns, H rows and shift S
 abbrev pub BrickIs : ℕ → ℕ → ℕ → ℕ → ℕ → ℕ → Type 0
@@ -57,6 +70,13 @@ pub record Marks : Type 0 where
   -- the shift leads on to the same phase, and each phase occurs once in a brick
   pub shifted : Shifted listed 0 0
   pub once : Once tworowed 0 0 1
+  -- rule 12.20: the phases of (6, 40) and (6, 54), where the last column begins and ends; and each of the 105
+  pub motif-94 : OnceInMotif listed 0 starts 94
+  pub motif-87 : OnceInMotif listed 0 starts 87
+  pub motif-all : every 105 (λ p. eqb (timesInMotif listed 0 starts p) 1) ≡ true
+  -- rule 12.21: (0, 0) and (5, 12) have phase 0
+  pub motif-none : HasMotifs undivided → ⊥
+  pub motif-twice : timesInMotif undivided 0 (λ i. 0) 0 ≡ 2
   -- the lowest number that applies: of 3 and 4, and of 1 and 5
   pub lowest-3 : refusalOf (screenOf 4 7 5 6 5) ≡ 3
   pub lowest-1 : placeRefusal sloped 65536 0 ≡ 1

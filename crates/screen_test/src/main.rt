@@ -85,7 +85,8 @@ fn lowest_first() {
     show(screen_of(4, 8, 105, 17, 105));
 }
 
-// Refusal 5: both coordinates at the sheet's edge, and that refusals of the screen come first.
+// Refusal 5: both coordinates at the sheet's edge, and that refusals of the screen come first; then the
+// cells that the worked examples of motifs name.
 fn places() {
     let s = screen_of(4, 7, 105, 2, 0);
     show_place(s, 0, 0);
@@ -97,6 +98,10 @@ fn places() {
     show_place(s, 4294967295, 4294967295);
     show_place(screen_of(4, 7, 105, 2, 104), 65535, 65535);
     show_place(screen_of(4, 7, 70, 2, 70), 65536, 65536);
+    show_place(s, 6, 40);
+    show_place(s, 6, 54);
+    show_place(screen_of(4, 7, 104, 2, 0), 0, 0);
+    show_place(screen_of(4, 7, 104, 2, 0), 5, 12);
 }
 
 // Refusal 8: buffers of n - 1, n and n + 1 places, of none, and of n places for a refused screen.

@@ -33,7 +33,7 @@ pub use separation::{scale, weights, Inks, Separation};
 pub use stored::{make_screen, replace_cells, replace_offset, replace_subscreens, Made};
 
 /// The number of the rules that this implementation is written from (rule 14.1).
-pub const RULES: u32 = 5;
+pub const RULES: u32 = 6;
 
 /// The refusal of a separation that is neither 0 (Demichel) nor 1 (Kueppers), tested before all else
 /// (rule 14.3).

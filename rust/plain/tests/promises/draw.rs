@@ -48,6 +48,11 @@ pub fn cell_count(random: &mut Random, a: u32) -> u32 {
 pub fn screen(random: &mut Random) -> Screen {
     let (a, b) = slope(random);
     let n = cell_count(random, a);
+    screen_of(random, a, b, n)
+}
+
+/// An admitted screen of this slope and cell count.
+pub fn screen_of(random: &mut Random, a: u32, b: u32, n: u32) -> Screen {
     let most = n.min(16);
     let any = random.between(1, most);
     let k = random.one_of(&[1, most, any]);

@@ -6,13 +6,13 @@ use cavzemil_plain::random::Random;
 use cavzemil_plain::{scale, subscreen_of, weights, Brick, Inks, Screen, Separation, Window};
 
 /// A window rendered by both renderers, with the phase of each cell.
-struct Finished {
+pub struct Finished {
     screen: Screen,
     brick: Brick,
     columns: usize,
     rows: usize,
-    cells: Vec<u8>,
-    phases: Vec<u32>,
+    pub cells: Vec<u8>,
+    pub phases: Vec<u32>,
     tallies: [u64; 8],
 }
 
@@ -33,7 +33,7 @@ fn phases_of(screen: Screen, w: Window) -> Vec<u32> {
 }
 
 /// Renders a window both ways, which must agree (rule 13.7) and not refuse (rule 13.1).
-fn finish(screen: Screen, separation: u32, w: Window, input: &[u8]) -> Finished {
+pub fn finish(screen: Screen, separation: u32, w: Window, input: &[u8]) -> Finished {
     let mut brick = vec![0; screen.n as usize];
     assert_eq!(fill_brick(screen, &mut brick), 0, "{screen:?}");
     let mut cells = vec![8; (w.columns * w.rows) as usize];
@@ -55,7 +55,7 @@ fn finish(screen: Screen, separation: u32, w: Window, input: &[u8]) -> Finished 
 }
 
 /// Counts how often each number below a limit stands among the values.
-fn tally(values: impl Iterator<Item = usize>, limit: usize) -> Vec<u64> {
+pub fn tally(values: impl Iterator<Item = usize>, limit: usize) -> Vec<u64> {
     let mut tallies = vec![0; limit];
     values.for_each(|value| tallies[value] += 1);
     tallies
@@ -122,7 +122,7 @@ fn even_parts(subscreens: u32, counts: [u32; 8]) -> Vec<u64> {
 
 /// Every count is its colorant's share, N × weight / D, rounded down or up (rule 13.5), and they add up to N
 /// (rule 5.4).
-fn check_shares(screen: Screen, separation: Separation, inks: Inks, counts: [u32; 8]) {
+pub fn check_shares(screen: Screen, separation: Separation, inks: Inks, counts: [u32; 8]) {
     let d = scale(separation);
     for (weight, count) in weights(separation, inks).iter().zip(counts) {
         let share = u64::from(screen.n) * weight;

@@ -8,6 +8,7 @@ pub mod false_records;
 mod finished_windows;
 pub mod making;
 mod marks;
+mod motifs;
 mod phases;
 
 /// The number of Demichel's separation (rule 14.3).
