@@ -72,6 +72,7 @@ fn main() -> Result<(), Refusal> {
 
     println!(r#"<svg xmlns="http://www.w3.org/2000/svg" width="660" height="560" viewBox="0 0 33 28">"#);
     println!("<title>Three motifs of 7 columns by 15 rows in a tint on the screen 4/7 of 105 cells</title>");
+    println!(r##"<rect width="33" height="28" fill="#ffffff"/>"##);
     println!(r##"<rect width="33" height="24" fill="#e0e0e0"/>"##);
     println!(r#"<g shape-rendering="crispEdges">"#);
     for (colorant, (_, colour)) in INKS.iter().enumerate() {

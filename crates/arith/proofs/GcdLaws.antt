@@ -1,9 +1,9 @@
--- What Euclid's rule computes: a divisor of both numbers that every common divisor divides, and Gauss' law.
+-- What Euclid's rule computes: a divisor of both numbers that every common divisor divides.
 -- All of it is one induction along the rule, 'what divides a * x and b * x divides gcdOf a b * x'; no Bezout numbers are needed.
 -- Assumes nothing.
 use Prim.Native.Nat.{ℕ, zero, suc, _+_, _*_, _/_, _%_, _≤_, _<_, _∣_}
 use mathlib.Core.Path.{_≡_, refl, ap, _∙_}
-use native.Mathlib.Nat.{le-refl, le-trans, le-of-suc-le-suc, not-suc-le-zero, zero-lt-suc, mod-lt, mod-one, mod-eq-of-lt, dvd-refl, dvd-zero, dvd-mod-iff, dvd-add-iff-right, dvd-mul-left-of-dvd, dvd-mul-right, pos-of-dvd-of-pos, dvd-of-mul-dvd-mul-left, mul-dvd-mul-left, mul-div-cancel', eq-one-of-dvd-one, mul-one, one-mul, add-mul, mul-assoc, div-add-mod'}
+use native.Mathlib.Nat.{le-refl, le-trans, le-of-suc-le-suc, not-suc-le-zero, zero-lt-suc, mod-lt, mod-one, mod-eq-of-lt, dvd-refl, dvd-zero, dvd-mod-iff, dvd-add-iff-right, dvd-mul-left-of-dvd, pos-of-dvd-of-pos, dvd-of-mul-dvd-mul-left, mul-dvd-mul-left, mul-div-cancel', eq-one-of-dvd-one, mul-one, add-mul, mul-assoc, div-add-mod'}
 use native.Mathlib.Omega.{arith}
 use Rattle.arith.specs.Gcd.{gcdFuel, gcdOf}
 
@@ -79,10 +79,6 @@ gcd-scaled d x =
 -- EVERY COMMON DIVISOR DIVIDES IT
 pub gcd-greatest : (d a b : ℕ) → d ∣ a → d ∣ b → d ∣ gcdOf a b
 gcd-greatest d a b p q = rw mul-one at (gcd-scaled d 1 a b (rw mul-one p) (rw mul-one q))
-
--- GAUSS' LAW: a number that divides a product and has no divisor above 1 in common with one factor divides the other
-pub gauss : (a n x : ℕ) → gcdOf a n ≡ 1 → n ∣ a * x → n ∣ x
-gauss a n x e p = rw (e, one-mul) at (gcd-scaled n x a n p (dvd-mul-right n x))
 
 -- it is above 0 where the second number is
 pub gcd-pos : (a n : ℕ) → 0 < n → 0 < gcdOf a n

@@ -1,4 +1,4 @@
--- Rules 12.1 to 12.6, 12.12, 12.18 and 12.19, the worked examples up to here in one statement, and two small cases of the laws.
+-- Rules 12.1 to 12.6, 12.12 and 12.18 to 12.21, the worked examples up to here in one statement, and two small cases of the laws.
 -- proofs/AllMarks.antt shows them by computing the definitions.
 -- Assumes nothing: these are statements.
 use mathlib.Core.Path.{_≡_}
@@ -16,7 +16,7 @@ use Rattle.quantiser.specs.Leaves.{loneThreshold}
 use Rattle.quantiser.specs.Laws.{ShareRounded, SplitEvenly}
 
 pub record Marks : Type 0 where
-  -- rules 12.1, 12.2, 12.12, 12.18 and 12.19: the bricks of three screens, the phases 7, 26 and 72, and stored numbers
+  -- rules 12.1, 12.2, 12.12 and 12.18 to 12.21: the bricks of three screens, the phases 7, 26 and 72, stored numbers, and the phases of motifs
   pub screens : Screens.Marks
   -- rule 12.3
   pub first-p : upto (count listed Demichel half) 8 ≡ 26 ∷ 26 ∷ 0 ∷ 27 ∷ 0 ∷ 0 ∷ 0 ∷ 26 ∷ []

@@ -8,7 +8,7 @@ use native.Mathlib.Nat.{add-sub-of-le}
 use native.Mathlib.Omega.{arith}
 use lib.Dec.{eqb}
 use lib.ListN.{length, getD}
-use Rattle.arith.specs.Sum.{sumBelow, indicator}
+use Rattle.arith.specs.Sum.{indicator}
 use Rattle.arith.specs.Refusal.{written}
 use Rattle.arith.proofs.RefusalLaws.{or-none, written-all}
 use Rattle.arith.proofs.SumLaws.{sum-same, sum-along-places}
@@ -42,9 +42,7 @@ cells-counted s ok divides sep inks values x start j l =
     ∙ phases-in-all s ok sep inks values j l
 
 pub motif-counted : MotifCounted
-motif-counted s ok divides sep inks values x start j l =
-    let counted = cells-counted s ok divides sep inks values x start j l in
-    (counted, rw counted (count-share s ok sep inks values j))
+motif-counted s ok divides sep inks values x start j l = (cells-counted s ok divides sep inks values x start j l, count-share s ok sep inks values j)
 
 -- ---- in what is written
 
@@ -64,7 +62,7 @@ module _ (s : Screen) (sep : Separation) (w : Window) (inks : Inks) (x : ℕ) (s
   bytes-counted j =
       sum-same (s .b) _ _ (λ i across. sum-same (motifRows s) _ _ (λ k down. ap (λ (c : ℕ). indicator (eqb c j)) (byte i k across down)))
 
-  -- where nothing refuses the window, and r says so
+  -- what a renderer has written that answers r, which is 0, and was handed a window that nothing refuses
   served : (out : List ℕ) (j r : ℕ) → j < 8 → windowRefusal s w (length input) (length out) ≡ 0 → r ≡ 0
       → Quantised s sep inks j (motifBytes s w (written r (windowCells s sep w input) out) x start j)
   served out j r l z e =

@@ -16,7 +16,7 @@ use Rattle.render.specs.declared.Window.{Window}
 use Rattle.render.specs.Windows.{talliesOf}
 use Rattle.render.specs.Answers.{brickRefusal, rendering, rendered, brickRendering, brickRendered}
 use Rattle.render.specs.Finished.{Counted, bytesInSubscreen}
-use Rattle.render.specs.Motifs.{motifCells, Quantised, motifBytes}
+use Rattle.render.specs.Motifs.{motifCells, Quantised, motifBytes, MotifWritten}
 
 -- A screen of four phases in two subscreens, a brick of 4 by 1, and a tint: phases 0, 2 and 3 are cyan, phase 1 is white.
 abbrev pub four : Screen
@@ -75,7 +75,8 @@ pub record Marks : Type 0 where
   pub in-subscreen : bytesInSubscreen four (along 5) (0 ∷ 7 ∷ 0 ∷ 0 ∷ 0 ∷ []) 1 0 1 0 ≡ 2
   -- rule 12.20
   pub motif-cells : upto (motifCells listed Demichel half 0 starts) 8 ≡ 26 ∷ 26 ∷ 0 ∷ 27 ∷ 0 ∷ 0 ∷ 0 ∷ 26 ∷ []
-  -- 3 cells of a motif of 4, by each renderer; and by hand
+  -- 3 cells of a motif of 4, by each renderer; by the law; and in bytes that are written here
   pub motif-written : CyanInMotif (rendered halved Kueppers around pixels places)
   pub motif-read : CyanInMotif (brickRendered halved Kueppers around pixels brick places)
+  pub motif-law : MotifWritten → CyanInMotif (rendered halved Kueppers around pixels places)
   pub motif-bytes : motifBytes halved around (0 ∷ 6 ∷ 7 ∷ 0 ∷ 6 ∷ 0 ∷ []) 1 suc 0 ≡ 3

@@ -5,15 +5,14 @@ use mathlib.Core.Path.{_≡_}
 use mathlib.Core.List.{List}
 use lib.ListN.{getD}
 use lib.Dec.{eqb}
-use Rattle.arith.specs.Rounding.{Rounded}
 use Rattle.screen.specs.declared.Screen.{Screen}
 use Rattle.screen.specs.Screens.{Admitted}
 use Rattle.screen.specs.Motif.{HasMotifs, motifRows, inMotif}
 use Rattle.separation.specs.declared.Separation.{Separation}
 use Rattle.separation.specs.declared.Inks.{Inks}
-use Rattle.separation.specs.Weights.{weight, scaleOf}
 use Rattle.separation.specs.Laws.{InkValues}
 use Rattle.quantiser.specs.Running.{count}
+use Rattle.quantiser.specs.Laws.{ShareRounded}
 use Rattle.render.specs.declared.Window.{Window}
 use Rattle.render.specs.Windows.{inksAt, cellOf}
 use Rattle.render.specs.Answers.{rendering, rendered, brickRendering, brickRendered}
@@ -24,9 +23,9 @@ use Rattle.render.specs.Answers.{rendering, rendered, brickRendering, br
 unfoldable pub motifCells : Screen → Separation → Inks → ℕ → (ℕ → ℕ) → ℕ → ℕ
 motifCells s sep inks x start j = inMotif s x start (λ c r. eqb (cellOf s sep c r inks) j)
 
--- rules 18.3 and 18.5: so many cells are the count of colorant j, and so its share rounded down or up
+-- rules 18.3 and 18.5: so many cells are the count of colorant j, which is its share rounded down or up
 abbrev pub Quantised : Screen → Separation → Inks → ℕ → ℕ → Type 0
-Quantised s sep inks j cells = (cells ≡ count s sep inks j) × Rounded (s .n * weight sep inks j) (scaleOf sep) cells
+Quantised s sep inks j cells = (cells ≡ count s sep inks j) × ShareRounded s sep inks j
 
 -- rule 18.3
 abbrev pub MotifCounted : Type 0
@@ -52,8 +51,8 @@ motifBytes s w out x start j = inMotif s x start (λ c r. eqb (getD out (numberI
 pub record MotifHeld (s : Screen) (w : Window) (inks : Inks) (x : ℕ) (start : ℕ → ℕ) (input : List ℕ) : Type 0 where
   pub has-motifs : HasMotifs s
   pub bytes : InkValues inks
-  pub held : (i j : ℕ) → i < s .b → j < motifRows s → Holds w (x + i) (start i + j)
-  pub one-triple : (i j : ℕ) → i < s .b → j < motifRows s → inksAt input (numberIn w (x + i) (start i + j)) ≡ inks
+  pub held : (i k : ℕ) → i < s .b → k < motifRows s → Holds w (x + i) (start i + k)
+  pub one-triple : (i k : ℕ) → i < s .b → k < motifRows s → inksAt input (numberIn w (x + i) (start i + k)) ≡ inks
 
 -- rule 18.4, of each renderer where it does not refuse; so the second was lent a true brick
 abbrev pub MotifWritten : Type 0

@@ -1,7 +1,7 @@
 -- The marks, shown by computing the definitions.
 -- Assumes nothing.
 use mathlib.Core.Path.{refl}
-use native.Mathlib.Nat.{mod-eq-zero-of-dvd}
+use native.Mathlib.Nat.{dvd-of-mod-eq-zero, mod-eq-zero-of-dvd}
 use native.Mathlib.Omega.{arith}
 use Rattle.arith.specs.Gcd.{gcdOf}
 use Rattle.arith.specs.Remainder.{remainderOf}
@@ -35,11 +35,15 @@ marks =
       place-70 = refl;
       shifted = refl;
       once = refl;
+      motif-listed = dvd-of-mod-eq-zero 7 refl;
+      motif-ends = (refl, refl);
       motif-94 = refl;
       motif-87 = refl;
       motif-all = refl;
       motif-none = λ d. omega (arith, mod-eq-zero-of-dvd 7 d);
+      motif-zeros = (refl, refl);
       motif-twice = refl;
+      motif-missed = refl;
       lowest-3 = refl;
       lowest-1 = refl;
       made = refl;

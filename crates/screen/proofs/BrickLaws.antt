@@ -3,7 +3,7 @@
 use Prim.Native.Nat.{ℕ, zero, suc, _+_, _-_, _*_, _/_, _%_, _≤_, _<_, _∣_}
 use mathlib.Core.Path.{_≡_, sym, ap, ap₂, _∙_}
 use mathlib.Core.Bool.{Bool}
-use native.Mathlib.Nat.{dvd-antisymm, dvd-of-mod-eq-zero, pos-of-ne-zero, le-of-dvd, lt-of-lt-of-le, div-le-self, mul-zero, mul-suc, mul-sub, add-zero, add-assoc, one-mul, zero-mod, mod-eq-of-lt, add-mod-mod, mod-mod-of-dvd, mod-add-div, mul-div-cancel', dvd-mul-right, dvd-mul-right-of-dvd, dvd-of-mul-dvd-mul-left, add-mul-mod-self-left}
+use native.Mathlib.Nat.{dvd-antisymm, dvd-of-mod-eq-zero, pos-of-ne-zero, le-of-dvd, lt-of-lt-of-le, div-le-self, mul-zero, mul-suc, mul-sub, add-zero, add-assoc, one-mul, zero-mod, mod-eq-of-lt, add-mod-mod, mod-mod-of-dvd, mod-add-div, mul-div-cancel', dvd-mul-right, dvd-mul-right-of-dvd, add-mul-mod-self-left}
 use native.Mathlib.Omega.{arith}
 use lib.Dec.{eqb}
 use borrow.Author.Tests.{eq-eqb, eqb-true}
@@ -12,9 +12,9 @@ use Rattle.arith.specs.Remainder.{remainderOf}
 use Rattle.arith.specs.First.{firstBelow}
 use Rattle.arith.specs.Sum.{sumBelow, indicator}
 use Rattle.arith.proofs.GcdLaws.{gcd-divides, gcd-scaled, gcd-greatest, gcd-pos, gcd-reduced}
-use Rattle.arith.proofs.RemainderLaws.{same-remainder, below-divisor, remainder-minus, remainder-multiple, remainder-scaled, remainder-words}
+use Rattle.arith.proofs.RemainderLaws.{same-remainder, below-divisor, remainder-multiple, remainder-scaled, remainder-words}
 use Rattle.arith.proofs.SumLaws.{sum-same, sum-window, each-placed-once}
-use Rattle.arith.proofs.Residues.{residue-once}
+use Rattle.arith.proofs.Residues.{multiple-apart, residue-once}
 use Rattle.arith.proofs.FirstLaws.{first-found, first-counted, first-passes}
 use Rattle.screen.specs.Phase.{phaseOf}
 use Rattle.screen.specs.Sizes.{rowsOf, columnsOf, shiftOf}
@@ -46,16 +46,6 @@ module _ (a n : ℕ) (pos : 0 < n) where
       let h : ℕ = rowsOf a n in
       let reduced : h * (a / h) ≡ a = mul-div-cancel' h (gcd-divides a n .0) in
       ap (λ (z : ℕ). z * columnsOf a n) (sym reduced) ∙ omega (arith, ap (λ (z : ℕ). a / h * z) brick-size)
-
-  -- columns of one brick whose multiples of a leave the same remainder are the same column
-  pub column-only : (i j : ℕ) → i < columnsOf a n → j < columnsOf a n → a * i % n ≡ a * j % n → i ≡ j
-  column-only i j k l e = omega (arith, ahead i j l e, ahead j i k (sym e))
-    where
-      ahead : (i j : ℕ) → j < columnsOf a n → a * i % n ≡ a * j % n → j - i ≡ 0
-      ahead i j l e =
-          let h : ℕ = rowsOf a n in
-          let scaled : n ∣ h * (j - i) = gcd-scaled n (j - i) a n (rw mul-sub (same-remainder n (a * i) (a * j) e)) (dvd-mul-right n (j - i)) in
-          below-divisor (dvd-of-mul-dvd-mul-left (columnsOf a n) rows-pos (rw brick-size scaled)) (omega arith)
 
 -- ---- shift
 
@@ -91,7 +81,7 @@ module _ (a b n : ℕ) (pos : 0 < n) where
   shift-words = eqb-true _ _ (first-passes (columnsOf a n) (matches a b n) shift-below)
 
   pub shift-only : (t : ℕ) → t < columnsOf a n → (a * t + b * rowsOf a n) % n ≡ 0 → t ≡ shiftOf a b n
-  shift-only t l e = column-only a n pos t (shiftOf a b n) l shift-below (remainder-minus n _ _ (b * rowsOf a n) pos (e ∙ sym shift-words))
+  shift-only t l e = multiple-apart a n (b * rowsOf a n) pos t (shiftOf a b n) l shift-below (e ∙ sym shift-words)
 
 -- ---- size and shift, told without working them out
 
@@ -174,9 +164,8 @@ module _ (a b n g : ℕ) (unit : gcdOf a b ≡ 1) (pos : 0 < n) where
     -- and two of one row in the same column
     column-same : (i i′ v : ℕ) → i < columnsOf a n → i′ < columnsOf a n → phaseOf a b n g (x + i) v ≡ phaseOf a b n g (x + i′) v → i ≡ i′
     column-same i i′ v k l e =
-        let level : (a * (x + i) + b * v) % n ≡ (a * (x + i′) + b * v) % n = phase-same a b n g pos (x + i) v (x + i′) v e in
-        let bare : (a * i + (a * x + b * v)) % n ≡ (a * i′ + (a * x + b * v)) % n = ap (λ (z : ℕ). z % n) (omega arith) ∙ level ∙ ap (λ (z : ℕ). z % n) (omega arith) in
-        column-only a n pos i i′ k l (remainder-minus n (a * i) (a * i′) (a * x + b * v) pos bare)
+        multiple-apart a n (a * x + b * v) pos i i′ k l
+        (ap (λ (z : ℕ). z % n) (omega arith) ∙ phase-same a b n g pos (x + i) v (x + i′) v e ∙ ap (λ (z : ℕ). z % n) (omega arith))
 
     -- IN ANY L COLUMNS BY H ROWS each phase occurs exactly once
     pub phase-once : (p : ℕ) → p < n → sumBelow (rowsOf a n) (λ j. sumBelow (columnsOf a n) (λ i. indicator (eqb (phaseOf a b n g (x + i) (y + j)) p))) ≡ 1

@@ -1,17 +1,16 @@
--- A motif, over plain numbers: each phase occurs in it exactly once, whichever rows its columns begin at. Of two of its cells with one
--- phase the columns are the same, since b divides n and has no divisor above 1 in common with a; and then the rows, since T neighbouring
--- multiples of b leave T remainders by n = b * T.
+-- A motif, over plain numbers: each phase occurs in it exactly once, whichever rows its columns begin at. Two of its cells with one phase
+-- have one remainder by b, which divides n, and so are in one column; and in a column n / b neighbouring multiples of b differ by n.
 -- Assumes nothing.
 use Prim.Native.Nat.{ℕ, _+_, _-_, _*_, _/_, _%_, _<_, _∣_}
 use mathlib.Core.Path.{_≡_, sym, ap, _∙_}
-use native.Mathlib.Nat.{pos-of-dvd-of-pos, dvd-mul-left, dvd-of-mul-dvd-mul-left, mul-sub, mul-div-cancel', mod-mod-of-dvd, add-mul-mod-self-left}
+use native.Mathlib.Nat.{pos-of-dvd-of-pos, dvd-refl, dvd-antisymm, dvd-mul-left, mul-div-cancel', mod-mod-of-dvd, add-mul-mod-self-left}
 use native.Mathlib.Omega.{arith}
 use lib.Dec.{eqb}
 use Rattle.arith.specs.Gcd.{gcdOf}
 use Rattle.arith.specs.Sum.{sumBelow, indicator}
-use Rattle.arith.proofs.RemainderLaws.{same-remainder, below-divisor}
+use Rattle.arith.proofs.GcdLaws.{gcd-divides, gcd-greatest}
 use Rattle.arith.proofs.SumLaws.{each-placed-once}
-use Rattle.arith.proofs.Residues.{residue-apart}
+use Rattle.arith.proofs.Residues.{multiple-apart, residue-apart}
 use Rattle.screen.specs.Phase.{phaseOf}
 use Rattle.screen.proofs.PhaseLaws.{phase-below, phase-same}
 
@@ -26,29 +25,28 @@ module _ (a b n g : ℕ) (unit : gcdOf a b ≡ 1) (pos : 0 < n) (divides : b ∣
   column-remainder : (c r : ℕ) → (a * c + b * r) % n % b ≡ a * c % b
   column-remainder c r = mod-mod-of-dvd b (a * c + b * r) divides ∙ add-mul-mod-self-left (a * c) b r
 
-  module _ (x : ℕ) (start : ℕ → ℕ) where
-    column-same : (i j r r′ : ℕ) → i < b → j < b → phaseOf a b n g (x + i) r ≡ phaseOf a b n g (x + j) r′ → i ≡ j
-    column-same i j r r′ k l e =
-        residue-apart a b (a * x) unit i j k l
-        (ap (λ (z : ℕ). z % b) (omega arith)
-        ∙ sym (column-remainder (x + i) r)
-        ∙ ap (λ (z : ℕ). z % b) (phase-same a b n g pos (x + i) r (x + j) r′ e)
-        ∙ column-remainder (x + j) r′
-        ∙ ap (λ (z : ℕ). z % b) (omega arith))
+  -- b neighbouring columns have b remainders by b
+  column-same : (x i j r r′ : ℕ) → i < b → j < b → phaseOf a b n g (x + i) r ≡ phaseOf a b n g (x + j) r′ → i ≡ j
+  column-same x i j r r′ k l e =
+      residue-apart a b (a * x) unit i j k l
+      (ap (λ (z : ℕ). z % b) (omega arith)
+      ∙ sym (column-remainder (x + i) r)
+      ∙ ap (λ (z : ℕ). z % b) (phase-same a b n g pos (x + i) r (x + j) r′ e)
+      ∙ column-remainder (x + j) r′
+      ∙ ap (λ (z : ℕ). z % b) (omega arith))
 
-    row-same : (c y i j : ℕ) → i < n / b → j < n / b → phaseOf a b n g c (y + i) ≡ phaseOf a b n g c (y + j) → i ≡ j
-    row-same c y i j k l e = omega (arith, ahead i j l e, ahead j i k (sym e))
-      where
-        ahead : (i j : ℕ) → j < n / b → phaseOf a b n g c (y + i) ≡ phaseOf a b n g c (y + j) → j - i ≡ 0
-        ahead i j l e =
-            let d : a * c + b * (y + j) - (a * c + b * (y + i)) ≡ b * (j - i) = rw mul-sub (omega arith) in
-            let whole : n ∣ b * (j - i) = rw d at (same-remainder n _ _ (phase-same a b n g pos c (y + i) c (y + j) e)) in
-            below-divisor (dvd-of-mul-dvd-mul-left (n / b) (pos-of-dvd-of-pos divides pos) (rw size whole)) (omega arith)
+  -- and n / b neighbouring rows of a column n / b phases
+  row-same : (c y i j : ℕ) → i < n / b → j < n / b → phaseOf a b n g c (y + i) ≡ phaseOf a b n g c (y + j) → i ≡ j
+  row-same c y i j k l e =
+      let common : gcdOf b n ≡ b = dvd-antisymm (gcd-divides b n .0) (gcd-greatest b b n (dvd-refl b) divides) in
+      multiple-apart b n (a * c + b * y) pos i j (rw common k) (rw common l)
+      (ap (λ (z : ℕ). z % n) (omega arith) ∙ phase-same a b n g pos c (y + i) c (y + j) e ∙ ap (λ (z : ℕ). z % n) (omega arith))
 
-    -- IN ANY MOTIF each phase occurs exactly once
-    pub motif-once : (p : ℕ) → p < n → sumBelow b (λ i. sumBelow (n / b) (λ j. indicator (eqb (phaseOf a b n g (x + i) (start i + j)) p))) ≡ 1
-    motif-once =
-        each-placed-once b (n / b) n (λ i j. phaseOf a b n g (x + i) (start i + j)) size rows-pos (λ i j. phase-below a b n g pos _ _)
-        (λ i j i′ j′ across down across′ down′ e.
-        let column : i ≡ i′ = column-same i i′ _ _ across across′ e in
-        (column, row-same (x + i) (start i) j j′ down down′ (e ∙ ap (λ (z : ℕ). phaseOf a b n g (x + z) (start z + j′)) (sym column))))
+  -- IN ANY MOTIF each phase occurs exactly once
+  pub motif-once : (x : ℕ) (start : ℕ → ℕ) (p : ℕ) → p < n
+      → sumBelow b (λ i. sumBelow (n / b) (λ j. indicator (eqb (phaseOf a b n g (x + i) (start i + j)) p))) ≡ 1
+  motif-once x start =
+      each-placed-once b (n / b) n (λ i j. phaseOf a b n g (x + i) (start i + j)) size rows-pos (λ i j. phase-below a b n g pos _ _)
+      (λ i j i′ j′ across down across′ down′ e.
+      let column : i ≡ i′ = column-same x i i′ _ _ across across′ e in
+      (column, row-same (x + i) (start i) j j′ down down′ (e ∙ ap (λ (z : ℕ). phaseOf a b n g (x + z) (start z + j′)) (sym column))))

@@ -1,4 +1,4 @@
--- The laws of specs/Laws.antt, proved: those over plain numbers (PhaseLaws, BrickLaws), at an admitted screen's numbers.
+-- The laws of specs/Laws.antt, proved: those over plain numbers (PhaseLaws, BrickLaws, MotifLaws), at an admitted screen's numbers.
 -- Assumes nothing.
 use Prim.Native.Nat.{ℕ, _+_, _*_, _/_, _<_}
 use mathlib.Core.Path.{_≡_, refl, sym, ap₂, _∙_, subst}

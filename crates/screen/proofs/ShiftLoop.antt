@@ -2,11 +2,12 @@
 -- Assumes nothing.
 use Prim.Native.Nat.{ℕ, _+_, _-_, _*_, _/_, _%_, _≤_, _<_}
 use mathlib.Core.Path.{_≡_, sym, ap, _∙_}
-use native.Mathlib.Nat.{pos-of-ne-zero, le-of-dvd, le-of-mul-le-mul-left, mod-le, mod-mod, add-mul-mod-self-left, div-add-mod, mul-div-cancel', dvd-mul-right, dvd-of-mod-eq-zero, mod-eq-zero-of-dvd}
+use native.Mathlib.Nat.{pos-of-ne-zero, le-of-dvd, le-of-mul-le-mul-left, add-zero, mod-le, mod-mod, add-mul-mod-self-left, div-add-mod, mul-div-cancel', dvd-mul-right, dvd-of-mod-eq-zero, mod-eq-zero-of-dvd}
 use native.Mathlib.Omega.{arith}
 use Rattle.arith.proofs.RemainderLaws.{same-remainder, remainder-minus}
+use Rattle.arith.proofs.Residues.{multiple-apart}
 use Rattle.screen.specs.Sizes.{rowsOf, shiftOf}
-use Rattle.screen.proofs.BrickLaws.{column-only, shift-below, shift-words}
+use Rattle.screen.proofs.BrickLaws.{shift-below, shift-words}
 
 pub record ShiftAt (a b n along : ℕ) : Type 0 where
   pub up-to : along ≤ a * shiftOf a b n
@@ -43,4 +44,4 @@ module _ {a b n along : ℕ} (s : ShiftAt a b n along) where
       let whole : a * (along / a) ≡ along = mul-div-cancel' a (dvd-of-mod-eq-zero a e) in
       let near : along / a ≤ shiftOf a b n = le-of-mul-le-mul-left (rw whole (s .up-to)) some in
       let below : shiftOf a b n < _ = shift-below a b n pos in
-      column-only a n pos (along / a) (shiftOf a b n) (omega (arith, near, below)) below (rw whole (s .so-far))
+      multiple-apart a n 0 pos (along / a) (shiftOf a b n) (omega (arith, near, below)) below (rw (whole, add-zero, add-zero) (s .so-far))

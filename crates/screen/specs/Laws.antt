@@ -130,7 +130,7 @@ abbrev pub EachPhaseTimes : Type 0
 EachPhaseTimes =
     (s : Screen) → Admitted s → (x y u v p : ℕ) → p < s .n → times s x y (u * columns s) (v * rows s) p ≡ u * v
 
--- how many cells of the motif with these columns and rows have the phase p
+-- how many cells of the motif from column x on, whose column x + i begins at row start i, have the phase p
 abbrev pub timesInMotif : Screen → ℕ → (ℕ → ℕ) → ℕ → ℕ
 timesInMotif s x start p = inMotif s x start (λ c r. eqb (phase s c r) p)
 

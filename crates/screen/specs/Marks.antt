@@ -70,13 +70,17 @@ pub record Marks : Type 0 where
   -- the shift leads on to the same phase, and each phase occurs once in a brick
   pub shifted : Shifted listed 0 0
   pub once : Once tworowed 0 0 1
-  -- rule 12.20: the phases of (6, 40) and (6, 54), where the last column begins and ends; and each of the 105
+  -- rule 12.20: 7 divides 105; the phases at (6, 40) and (6, 54), where the last column begins and ends, occur once, and so does each
+  pub motif-listed : HasMotifs listed
+  pub motif-ends : (phaseOf 4 7 105 0 6 40 ≡ 94) × (phaseOf 4 7 105 0 6 54 ≡ 87)
   pub motif-94 : OnceInMotif listed 0 starts 94
   pub motif-87 : OnceInMotif listed 0 starts 87
   pub motif-all : every 105 (λ p. eqb (timesInMotif listed 0 starts p) 1) ≡ true
-  -- rule 12.21: (0, 0) and (5, 12) have phase 0
+  -- rule 12.21: 7 does not divide 104; (0, 0) and (5, 12) have phase 0, which occurs twice, and phase 1 does not occur
   pub motif-none : HasMotifs undivided → ⊥
+  pub motif-zeros : (phaseOf 4 7 104 0 0 0 ≡ 0) × (phaseOf 4 7 104 0 5 12 ≡ 0)
   pub motif-twice : timesInMotif undivided 0 (λ i. 0) 0 ≡ 2
+  pub motif-missed : timesInMotif undivided 0 (λ i. 0) 1 ≡ 0
   -- the lowest number that applies: of 3 and 4, and of 1 and 5
   pub lowest-3 : refusalOf (screenOf 4 7 5 6 5) ≡ 3
   pub lowest-1 : placeRefusal sloped 65536 0 ≡ 1

@@ -1,5 +1,5 @@
-//! The plain implementation by itself: the worked examples, finished windows, jobs, cellular predictions,
-//! screens made and replaced, and the counts program's texts.
+//! The plain implementation by itself: the worked examples, finished windows, motifs, jobs, cellular
+//! predictions, screens made and replaced, and the counts program's texts.
 
 mod promises;
 mod texts;

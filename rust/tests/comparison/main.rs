@@ -1,5 +1,5 @@
-//! The compiled library compared with the plain second implementation: the worked examples and finished
-//! windows, every refusal from both sides of its limit, and many screens (admitted, refused and with false
+//! The compiled library compared with the plain second implementation: the worked examples, finished windows
+//! and motifs, every refusal from both sides of its limit, and many screens (admitted, refused and with false
 //! records), lists of replacements, windows, images, plates, primaries (of colorants and of their sets) and
 //! jobs drawn from fixed seeds. Lent memory stands between guards and is compared whole, guards included,
 //! after every call, refused ones too (rule 11.3). A mismatch is shrunk to the smallest case found and then

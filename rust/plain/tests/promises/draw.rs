@@ -11,6 +11,12 @@ pub fn record([a, b, n, k, g]: [u32; 5]) -> Screen {
     Screen { a, b, n, k, g, columns, rows, shift }
 }
 
+/// A number from 0 to the last, often one of these two.
+pub fn edge(random: &mut Random, last: u32) -> u32 {
+    let any = random.between(0, last);
+    random.one_of(&[0, last, any])
+}
+
 /// An admitted slope.
 pub fn slope(random: &mut Random) -> (u32, u32) {
     loop {
@@ -53,11 +59,8 @@ pub fn screen(random: &mut Random) -> Screen {
 
 /// An admitted screen of this slope and cell count.
 pub fn screen_of(random: &mut Random, a: u32, b: u32, n: u32) -> Screen {
-    let most = n.min(16);
-    let any = random.between(1, most);
-    let k = random.one_of(&[1, most, any]);
-    let any = random.between(0, n - 1);
-    let g = random.one_of(&[0, n - 1, any]);
+    let k = 1 + edge(random, n.min(16) - 1);
+    let g = edge(random, n - 1);
     record([a, b, n, k, g])
 }
 

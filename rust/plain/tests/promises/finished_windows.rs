@@ -12,17 +12,15 @@ pub struct Finished {
     columns: usize,
     rows: usize,
     pub cells: Vec<u8>,
-    pub phases: Vec<u32>,
+    phases: Vec<u32>,
     tallies: [u64; 8],
 }
 
-/// Draws a window of whole bricks somewhere on the sheet, often at its far corner (rule 13.1).
+/// Draws a window of whole bricks somewhere on the sheet, often at one of its corners (rule 13.1).
 fn draw_window(random: &mut Random, brick: Brick) -> Window {
     let (columns, rows) = (random.between(0, 3) * brick.columns, random.between(0, 3) * brick.rows);
-    let (last_x, last_y) = (65_536 - columns, 65_536 - rows);
-    let (any_x, any_y) = (random.between(0, last_x), random.between(0, last_y));
-    let x = random.one_of(&[0, last_x, any_x]);
-    let y = random.one_of(&[0, last_y, any_y]);
+    let x = draw::edge(random, 65_536 - columns);
+    let y = draw::edge(random, 65_536 - rows);
     Window { x, y, columns, rows }
 }
 
@@ -32,7 +30,7 @@ fn phases_of(screen: Screen, w: Window) -> Vec<u32> {
     rows.flat_map(|y| (w.x..w.x + w.columns).map(move |x| phase_at(screen, x, y).phase)).collect()
 }
 
-/// Renders a window both ways, which must agree (rule 13.7) and not refuse (rule 13.1).
+/// Renders a window both ways, which must agree (rule 13.7) and not refuse (rules 13.1 and 18.4).
 pub fn finish(screen: Screen, separation: u32, w: Window, input: &[u8]) -> Finished {
     let mut brick = vec![0; screen.n as usize];
     assert_eq!(fill_brick(screen, &mut brick), 0, "{screen:?}");
@@ -120,8 +118,8 @@ fn even_parts(subscreens: u32, counts: [u32; 8]) -> Vec<u64> {
     parts
 }
 
-/// Every count is its colorant's share, N × weight / D, rounded down or up (rule 13.5), and they add up to N
-/// (rule 5.4).
+/// Every count is its colorant's share, N × weight / D, rounded down or up (rules 13.5 and 18.5), and they add
+/// up to N (rule 5.4).
 pub fn check_shares(screen: Screen, separation: Separation, inks: Inks, counts: [u32; 8]) {
     let d = scale(separation);
     for (weight, count) in weights(separation, inks).iter().zip(counts) {

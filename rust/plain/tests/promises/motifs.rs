@@ -11,7 +11,7 @@ use cavzemil_plain::{Inks, Screen, Separation, Window};
 /// The rows or columns of the sheet.
 const SHEET: u32 = 65_536;
 
-/// Neighbouring columns from x on, each with the row at which it begins, and as many rows in each of them.
+/// Neighbouring columns from x on, with the row at which each begins, and how many rows each has.
 struct Motif {
     x: u32,
     starts: Vec<u32>,
@@ -19,13 +19,13 @@ struct Motif {
 }
 
 impl Motif {
-    /// Draws a motif of a screen anywhere on the sheet, often at its edges. Its columns begin within so many
-    /// rows of each other.
+    /// Draws a motif of a screen anywhere on the sheet, often at its edges and corners. Its columns begin
+    /// within so many rows of each other.
     fn draw(random: &mut Random, s: Screen, spread: u32) -> Motif {
         let rows = s.n / s.b;
-        let x = draw_edge(random, SHEET - s.b);
-        let first = draw_edge(random, SHEET - rows - spread);
-        let starts = (0..s.b).map(|_| first + random.between(0, spread)).collect();
+        let x = draw::edge(random, SHEET - s.b);
+        let first = draw::edge(random, SHEET - rows - spread);
+        let starts = (0..s.b).map(|_| first + draw::edge(random, spread)).collect();
         Motif { x, starts, rows }
     }
 
@@ -37,7 +37,22 @@ impl Motif {
 
     /// How often each phase of a screen stands among the cells.
     fn phases(&self, s: Screen) -> Vec<u64> {
-        tally(self.cells().map(|(x, y)| phase_at(s, x, y).phase as usize), s.n as usize)
+        let phase = |(x, y)| {
+            let place = phase_at(s, x, y);
+            assert_eq!(place.refusal, 0, "({x}, {y}), {s:?}");
+            place.phase as usize
+        };
+        tally(self.cells().map(phase), s.n as usize)
+    }
+
+    /// How often each colorant stands among the cells, each asked for by itself with the same ink values.
+    fn colorants(&self, s: Screen, separation: u32, inks: Inks) -> Vec<u64> {
+        let colorant = |(x, y)| {
+            let cell = cell_at(s, separation, x, y, inks);
+            assert_eq!(cell.refusal, 0, "({x}, {y}), {s:?}");
+            cell.colorant as usize
+        };
+        tally(self.cells().map(colorant), 8)
     }
 
     /// Draws a window that has all cells, and up to three columns and rows more on each side.
@@ -53,12 +68,6 @@ impl Motif {
     fn places(&self, w: Window) -> Vec<usize> {
         self.cells().map(|(x, y)| ((y - w.y) * w.columns + (x - w.x)) as usize).collect()
     }
-}
-
-/// Draws a number up to a limit, often one of the ends.
-fn draw_edge(random: &mut Random, last: u32) -> u32 {
-    let any = random.between(0, last);
-    random.one_of(&[0, last, any])
 }
 
 /// Draws where columns or rows of the sheet begin, and how many they are, so that they have those from `first`
@@ -86,28 +95,25 @@ fn input_with(random: &mut Random, cells: u32, inks: Inks, places: &[usize]) -> 
     input
 }
 
-/// Each phase stands once in a motif (rule 18.2), and each colorant as often as its count says, by the lone
-/// cell (rule 18.3) and in a window that both renderers fill alike (rule 18.4).
+/// Each phase stands once in a motif (rule 18.2), and each colorant as often as its count says, in lone cells
+/// (rule 18.3) and in a window that both renderers fill alike (rule 18.4); counts are shares (rule 18.5).
 fn check(random: &mut Random, s: Screen, motif: &Motif) {
     assert_eq!(motif.phases(s), vec![1; s.n as usize], "phases, {s:?}");
     let inks = draw::inks(random);
     let number = random.one_of(&[DEMICHEL, KUEPPERS]);
     let counts = counts_of(s, number, inks).of;
-    let lone = motif.cells().map(|(x, y)| cell_at(s, number, x, y, inks).colorant as usize);
-    assert_eq!(tally(lone, 8), counts.map(u64::from), "lone cells, {s:?} {inks:?}");
+    check_shares(s, Separation::from_number(number).expect("0 and 1 are separations"), inks, counts);
+    assert_eq!(motif.colorants(s, number, inks), counts.map(u64::from), "lone cells, {s:?} {inks:?}");
 
     let w = motif.draw_window(random);
     let places = motif.places(w);
     let input = input_with(random, w.columns * w.rows, inks, &places);
-    let finished = finish(s, number, w, &input);
-    let phases = places.iter().map(|place| finished.phases[*place] as usize);
-    assert_eq!(tally(phases, s.n as usize), vec![1; s.n as usize], "phases, {s:?} {w:?}");
-    let written = places.iter().map(|place| usize::from(finished.cells[*place]));
+    let cells = finish(s, number, w, &input).cells;
+    let written = places.iter().map(|place| usize::from(cells[*place]));
     assert_eq!(tally(written, 8), counts.map(u64::from), "written, {s:?} {inks:?} {w:?}");
-    check_shares(s, Separation::from_number(number).expect("0 and 1 are separations"), inks, counts);
 }
 
-/// Motifs whose columns begin anywhere within some rows of each other: none, a few, or some hundred.
+/// Motifs whose columns begin within no row of each other, a few or some hundred.
 #[test]
 fn motifs_hold_the_counts_wherever_their_columns_begin() {
     let mut random = Random::new(61);
@@ -137,18 +143,15 @@ fn the_worked_motif_has_each_phase_once() {
     let motif = Motif { x: 0, starts: vec![0, 3, 1, 9, 2, 2, 40], rows: 15 };
     assert_eq!((phase_at(s, 6, 40).phase, phase_at(s, 6, 54).phase), (94, 87));
     assert_eq!(motif.phases(s), [1; 105]);
-    let cyan_and_magenta = motif.cells().map(|(x, y)| cell_at(s, DEMICHEL, x, y, [128, 128, 0]).colorant);
-    assert_eq!(tally(cyan_and_magenta.map(|colorant| colorant as usize), 8), [26, 26, 0, 27, 0, 0, 0, 26]);
+    assert_eq!(motif.colorants(s, DEMICHEL, [128, 128, 0]), [26, 26, 0, 27, 0, 0, 0, 26]);
     check(&mut Random::new(63), s, &motif);
 }
 
-/// Rule 12.21: b does not divide N, and a phase stands twice in as many columns and rows, another nowhere.
+/// Rule 12.21: b does not divide N, and of ⌊N / b⌋ rows of b columns two cells have phase 0, and none phase 1.
 #[test]
 fn no_motif_where_b_does_not_divide_n() {
     let s = record([4, 7, 104, 2, 0]);
     let block = Motif { x: 0, starts: vec![0; 7], rows: 14 };
     assert_eq!((phase_at(s, 0, 0).phase, phase_at(s, 5, 12).phase), (0, 0));
-    let phases = block.phases(s);
-    assert_eq!(phases[0], 2);
-    assert!(phases.contains(&0));
+    assert_eq!(block.phases(s)[..2], [2, 0]);
 }

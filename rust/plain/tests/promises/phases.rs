@@ -4,21 +4,14 @@ use super::draw;
 use crate::subject::phase_at;
 use cavzemil_plain::random::Random;
 
-/// Draws the column or row to set out from so that so many steps stay on the sheet, often the first or the last.
-fn draw_start(random: &mut Random, steps: u32) -> u32 {
-    let last = 65_535 - steps;
-    let any = random.between(0, last);
-    random.one_of(&[0, last, any])
-}
-
 /// From drawn places of drawn screens: a step right, a step down, along a line, and a brick right and down.
 #[test]
 fn steps_lead_to_the_phases_due() {
     let mut random = Random::new(31);
     for _ in 0..100_000 {
         let s = draw::screen(&mut random);
-        let x = draw_start(&mut random, s.columns.max(s.b));
-        let y = draw_start(&mut random, s.a.max(s.rows));
+        let x = draw::edge(&mut random, 65_535 - s.columns.max(s.b));
+        let y = draw::edge(&mut random, 65_535 - s.a.max(s.rows));
         let phase = |right, down| {
             let place = phase_at(s, x + right, y + down);
             assert_eq!(place.refusal, 0, "{s:?}");
