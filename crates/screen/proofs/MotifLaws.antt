@@ -1,7 +1,7 @@
--- A motif, over plain numbers: each phase occurs in it exactly once, whichever rows its columns begin at. Two of its cells with one phase
--- have one remainder by b, which divides n, and so are in one column; and in a column n / b neighbouring multiples of b differ by n.
+-- A motif, over plain numbers: each phase occurs in it exactly once, whichever rows its columns begin at. Since b divides n, two of its
+-- cells with one phase have columns of one remainder, and so one column; and n / b neighbouring cells of a column have different phases.
 -- Assumes nothing.
-use Prim.Native.Nat.{ℕ, _+_, _-_, _*_, _/_, _%_, _<_, _∣_}
+use Prim.Native.Nat.{ℕ, _+_, _*_, _/_, _%_, _<_, _∣_}
 use mathlib.Core.Path.{_≡_, sym, ap, _∙_}
 use native.Mathlib.Nat.{pos-of-dvd-of-pos, dvd-refl, dvd-antisymm, dvd-mul-left, mul-div-cancel', mod-mod-of-dvd, add-mul-mod-self-left}
 use native.Mathlib.Omega.{arith}
@@ -15,6 +15,7 @@ use Rattle.screen.specs.Phase.{phaseOf}
 use Rattle.screen.proofs.PhaseLaws.{phase-below, phase-same}
 
 module _ (a b n g : ℕ) (unit : gcdOf a b ≡ 1) (pos : 0 < n) (divides : b ∣ n) where
+  -- b columns of n / b cells are n cells
   size : b * (n / b) ≡ n
   size = mul-div-cancel' b divides
 
@@ -25,7 +26,7 @@ module _ (a b n g : ℕ) (unit : gcdOf a b ≡ 1) (pos : 0 < n) (divides : b ∣
   column-remainder : (c r : ℕ) → (a * c + b * r) % n % b ≡ a * c % b
   column-remainder c r = mod-mod-of-dvd b (a * c + b * r) divides ∙ add-mul-mod-self-left (a * c) b r
 
-  -- b neighbouring columns have b remainders by b
+  -- b neighbouring columns have different remainders, so that two of their cells with one phase are in one column
   column-same : (x i j r r′ : ℕ) → i < b → j < b → phaseOf a b n g (x + i) r ≡ phaseOf a b n g (x + j) r′ → i ≡ j
   column-same x i j r r′ k l e =
       residue-apart a b (a * x) unit i j k l
@@ -35,7 +36,7 @@ module _ (a b n g : ℕ) (unit : gcdOf a b ≡ 1) (pos : 0 < n) (divides : b ∣
       ∙ column-remainder (x + j) r′
       ∙ ap (λ (z : ℕ). z % b) (omega arith))
 
-  -- and n / b neighbouring rows of a column n / b phases
+  -- and n / b neighbouring multiples of b have different remainders by n, so that two of them in a column are one cell
   row-same : (c y i j : ℕ) → i < n / b → j < n / b → phaseOf a b n g c (y + i) ≡ phaseOf a b n g c (y + j) → i ≡ j
   row-same c y i j k l e =
       let common : gcdOf b n ≡ b = dvd-antisymm (gcd-divides b n .0) (gcd-greatest b b n (dvd-refl b) divides) in

@@ -3,7 +3,7 @@
 use Prim.Native.Nat.{ℕ, _+_, _*_, _/_, _<_}
 use mathlib.Core.Path.{_≡_, refl, sym, ap₂, _∙_, subst}
 use mathlib.Core.List.{_++_}
-use native.Mathlib.Nat.{mul-one, mod-lt, le-trans, le-of-eq}
+use native.Mathlib.Nat.{mul-one, mul-div-cancel', mod-lt, le-trans, le-of-eq}
 use lib.ListN.{length, drop, List·getD-append}
 use lib.Arith.{digits-lt, digits-div, digits-mod}
 use Rattle.arith.proofs.RemainderLaws.{remainder-below}
@@ -15,7 +15,7 @@ use Rattle.screen.specs.Phase.{phase}
 use Rattle.screen.specs.Brick.{rows, columns, shift, brickPhases, brickPlace, filled}
 use Rattle.screen.specs.Motif.{inMotif}
 use Rattle.screen.specs.Made.{madeOf}
-use Rattle.screen.specs.Laws.{AdmittedWords, PhaseBelow, PhaseWords, PhaseOnly, StepsRight, StepRight, StepsDown, StepDown, LinesRise, PlaceOnSheet, PlaceAnswered, BrickSize, PeriodRight, ShiftWords, ShiftOnly, ShiftLaw, BrickAnswered, FilledIsTrue, ReadFromBrick, BufferRefused, times, EachPhaseOnce, EachPhaseTimes, EachPhaseInMotif, MadeWords, MadeAdmitted, ReplacedAdmitted, RefusedKeeps, OffsetKeeps, SubscreensKeep, CellsKeep, TrueThroughout}
+use Rattle.screen.specs.Laws.{AdmittedWords, PhaseBelow, PhaseWords, PhaseOnly, StepsRight, StepRight, StepsDown, StepDown, LinesRise, PlaceOnSheet, PlaceAnswered, BrickSize, PeriodRight, ShiftWords, ShiftOnly, ShiftLaw, BrickAnswered, FilledIsTrue, ReadFromBrick, BufferRefused, times, EachPhaseOnce, EachPhaseTimes, MotifSize, EachPhaseInMotif, MadeWords, MadeAdmitted, ReplacedAdmitted, RefusedKeeps, OffsetKeeps, SubscreensKeep, CellsKeep, TrueThroughout}
 use Rattle.screen.proofs.Refusals as Refusals
 use Rattle.screen.proofs.PhaseLaws as PhaseLaws
 use Rattle.screen.proofs.BrickLaws as BrickLaws
@@ -123,6 +123,9 @@ each-phase-once s e = BrickLaws.phase-once _ _ _ _ (limits e .slope-lowest) (lim
 pub each-phase-times : EachPhaseTimes
 unfolding times
 each-phase-times s e = BrickLaws.phase-times _ _ _ _ (limits e .slope-lowest) (limits e .cells-above)
+
+pub motif-size : MotifSize
+motif-size s divides = mul-div-cancel' (s .b) divides
 
 pub each-phase-in-motif : EachPhaseInMotif
 unfolding inMotif

@@ -10,7 +10,7 @@ use Rattle.screen.specs.declared.Screen.{Screen}
 use Rattle.screen.specs.Screens.{screenOf, refusalOf, Admitted, Limits, Stored}
 use Rattle.screen.specs.Phase.{phase, placeRefusal, placeOf}
 use Rattle.screen.specs.Brick.{rows, columns, shift, brickOf, bufferRefusal, filled, TrueBrick, placeInBrick}
-use Rattle.screen.specs.Motif.{HasMotifs, inMotif}
+use Rattle.screen.specs.Motif.{HasMotifs, motifRows, inMotif}
 use Rattle.screen.specs.Made.{noScreen, madeOf, offsetReplaced, subscreensReplaced, cellsReplaced, Replacement, replaced, afterAll}
 
 -- ---- screen and phase
@@ -129,6 +129,10 @@ EachPhaseOnce = (s : Screen) → Admitted s → (x y p : ℕ) → p < s .n → O
 abbrev pub EachPhaseTimes : Type 0
 EachPhaseTimes =
     (s : Screen) → Admitted s → (x y u v p : ℕ) → p < s .n → times s x y (u * columns s) (v * rows s) p ≡ u * v
+
+-- rule 18.1: a motif has N cells
+abbrev pub MotifSize : Type 0
+MotifSize = (s : Screen) → HasMotifs s → s .b * motifRows s ≡ s .n
 
 -- how many cells of the motif from column x on, whose column x + i begins at row start i, have the phase p
 abbrev pub timesInMotif : Screen → ℕ → (ℕ → ℕ) → ℕ → ℕ

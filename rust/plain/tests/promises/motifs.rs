@@ -81,8 +81,7 @@ fn draw_around(random: &mut Random, first: u32, end: u32) -> (u32, u32) {
 /// A screen that has motifs: b divides N.
 fn draw_screen(random: &mut Random) -> Screen {
     let (a, b) = draw::slope(random);
-    let any = random.between(1, 4096 / b);
-    let rows = random.one_of(&[1, 4096 / b, any]);
+    let rows = 1 + draw::edge(random, 4096 / b - 1);
     draw::screen_of(random, a, b, b * rows)
 }
 
@@ -113,7 +112,7 @@ fn check(random: &mut Random, s: Screen, motif: &Motif) {
     assert_eq!(tally(written, 8), counts.map(u64::from), "written, {s:?} {inks:?} {w:?}");
 }
 
-/// Motifs whose columns begin within no row of each other, a few or some hundred.
+/// Motifs whose columns begin at one row, or within a few or some hundred rows of each other.
 #[test]
 fn motifs_hold_the_counts_wherever_their_columns_begin() {
     let mut random = Random::new(61);
