@@ -73,3 +73,15 @@ module _ {n : ℕ} {passes : ℕ → Bool} {i : ℕ} (p : Passed n passes i) whe
   passed-end h =
       let q : i ≡ n = omega (arith, p .within) in
       sym (p .all) ∙ ap (λ (k : ℕ). every k passes) q
+
+-- ---- a test that says the same
+
+-- A TEST THAT PASSES WHERE EACH NUMBER DOES, and only there, is the test that all pass
+pub every-is : (n : ℕ) (passes : ℕ → Bool) (t : Bool) → (t ≡ true → (i : ℕ) → i < n → passes i ≡ true)
+    → (((i : ℕ) → i < n → passes i ≡ true) → t ≡ true) → t ≡ every n passes
+every-is n passes true only there = sym (every-made n passes (only refl))
+every-is n passes false only there = go (every n passes) refl
+  where
+    go : (u : Bool) → every n passes ≡ u → false ≡ every n passes
+    go true q = there (every-passes n passes q) ∙ sym q
+    go false q = sym q

@@ -13,4 +13,4 @@ pub mod RoundingLaws
 pub mod StepLaws
 pub mod TallyLaws
 pub mod OrderLaws
-pub mod BinaryLaws
+pub mod DigitLaws

@@ -1,6 +1,6 @@
 -- Laws of `upto`.
 -- Assumes nothing.
-use mathlib.Core.Path.{_≡_, refl, sym, ap, _∙_}
+use mathlib.Core.Path.{_≡_, refl, sym, ap, subst, _∙_}
 use Prim.Native.Nat.{ℕ, zero, suc, _+_, _-_, _≤_, _<_}
 use native.Mathlib.Nat.{add-zero, add-suc, le-refl}
 use native.Mathlib.Numerals.{add-one}
@@ -88,6 +88,10 @@ unfolding upto
 filling-start f l = record { within = omega arith; cells = refl }
 
 module _ {f : ℕ → ℕ} {l₀ l : List ℕ} {i : ℕ} (r : Filling f l₀ l i) where
+  -- the same place, otherwise written
+  pub filling-at : {j : ℕ} → i ≡ j → Filling f l₀ l j
+  filling-at e = subst (Filling f l₀ l) e r
+
   pub filling-length : length l ≡ length l₀
   filling-length = rw (r .cells) (upto-over f l₀ i (r .within))
 

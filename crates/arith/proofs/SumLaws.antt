@@ -306,3 +306,13 @@ module _ (F : ℕ → ℕ) (falls : (k : ℕ) → F (suc k) ≤ F k) where
     where
       go : (a b d s t : ℕ) → a ≡ b + d → s + m * a ≡ t → s + suc m * d + suc m * b ≡ t + a
       go a b d s t e h = omega (arith, ap (λ (x : ℕ). m * x) e)
+
+-- ---- sums that are equal
+
+-- OF TERMS THAT ARE NO LARGER AND ADD UP TO THE SAME each is the same
+pub sum-tight : (n : ℕ) (f g : ℕ → ℕ) → ((i : ℕ) → i < n → f i ≤ g i) → sumBelow n f ≡ sumBelow n g → (k : ℕ) → k < n → f k ≡ g k
+sum-tight n f g least same k l = go (decLt (f k) (g k))
+  where
+    go : Dec (f k < g k) → f k ≡ g k
+    go (yes less) = absurd (ne-of-lt (sum-less n f g k l least less) same)
+    go (no more) = omega (arith, least k l)

@@ -3,9 +3,12 @@ pub mod AllMarks
 mod MaskLaws
 mod PlaceLaws
 mod BitLaws
+mod UnionLaws
+mod SoundLaws
+mod ColorantLaws
 mod PlaneLaws
 mod NineLaws
 mod Refusals
-mod ByteLoop
-mod PixelLoops
-mod WriteLoops
+mod WordLaws
+mod PackLoops
+mod UnpackLoops

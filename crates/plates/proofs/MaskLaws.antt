@@ -31,7 +31,7 @@ mask-shifted x digits e = rw e (halved-at-once 128 (x % 8))
 -- ---- the eight masks
 
 -- what holds of each of the numbers 0 to 7
-each : (P : ℕ → Type 0) → P 0 → P 1 → P 2 → P 3 → P 4 → P 5 → P 6 → P 7 → (t : ℕ) → t < 8 → P t
+pub each : (P : ℕ → Type 0) → P 0 → P 1 → P 2 → P 3 → P 4 → P 5 → P 6 → P 7 → (t : ℕ) → t < 8 → P t
 each P a b c d e f g h zero l = a
 each P a b c d e f g h (suc zero) l = b
 each P a b c d e f g h (suc (suc zero)) l = c
@@ -46,9 +46,24 @@ pub mask-values : MaskValues
 unfolding mask
 mask-values x = each (λ t. halved 128 t ≡ getD (128 ∷ 64 ∷ 32 ∷ 16 ∷ 8 ∷ 4 ∷ 2 ∷ 1 ∷ []) t 0) refl refl refl refl refl refl refl refl (x % 8) (omega arith)
 
-mask-repeats : (b t : ℕ) → mask (8 * b + t) ≡ mask t
+pub mask-repeats : (b t : ℕ) → mask (8 * b + t) ≡ mask t
 unfolding mask
 mask-repeats b t = rw (mul-add-mod-self-left 8 b t)
+
+pub mask-small : (x : ℕ) → mask x < 256
+unfolding mask
+mask-small x = each (λ t. halved 128 t < 256) (omega arith) (omega arith) (omega arith) (omega arith) (omega arith) (omega arith) (omega arith) (omega arith) (x % 8) (omega arith)
+
+-- a mask is a power of 2, so that a bit is read by a shift
+pub mask-power : (t : ℕ) → t < 8 → mask t ≡ 2 ^ (7 - t)
+unfolding mask
+mask-power = each (λ t. mask t ≡ 2 ^ (7 - t)) refl refl refl refl refl refl refl refl
+
+-- the first masks added up leave a halved 256 of 256
+pub first-masks : (n : ℕ) → n ≤ 8 → 256 - 256 / 2 ^ n ≡ sumBelow n mask
+unfolding sumBelow mask
+first-masks zero l = refl
+first-masks (suc t) l = each (λ k. 256 - 256 / 2 ^ suc k ≡ sumBelow (suc k) mask) refl refl refl refl refl refl refl refl t l
 
 mask-first : mask 0 ≡ 128
 unfolding mask
@@ -98,8 +113,15 @@ module _ (f : ℕ → ℕ) (ones : (t : ℕ) → f t ≤ 1) where
   masks-room (suc t) l =
       omega (arith, masks-room t (omega arith), mask-halves t (omega arith), mul-le-mul-right (mask t) (ones t))
 
-  -- each bit is read back from the masks added up
-  bit-of-masks : (t : ℕ) → t < 8 → bit (sumBelow 8 (λ i. f i * mask i)) t ≡ f t
+  -- so all of them stay within a byte
+  pub masks-below : (n : ℕ) → n ≤ 8 → sumBelow n (λ i. f i * mask i) < 256
+  unfolding sumBelow
+  masks-below zero l = omega arith
+  masks-below (suc t) l =
+      omega (arith, masks-room t l, mul-le-mul-right (mask t) (ones t), mask-left (7 - t) t (omega arith))
+
+  -- EACH BIT IS READ BACK from the masks added up
+  pub bit-of-masks : (t : ℕ) → t < 8 → bit (sumBelow 8 (λ i. f i * mask i)) t ≡ f t
   bit-of-masks = rw (masks-out f) (bits-out _ f (go (f 0) (f 1) (f 2) (f 3) (f 4) (f 5) (f 6) (f 7) (ones 0) (ones 1) (ones 2) (ones 3) (ones 4) (ones 5) (ones 6) (ones 7)))
     where
       go : (a b c d e f g h : ℕ) → a ≤ 1 → b ≤ 1 → c ≤ 1 → d ≤ 1 → e ≤ 1 → f ≤ 1 → g ≤ 1 → h ≤ 1
@@ -119,21 +141,19 @@ masks-of-bits byte (suc t) l =
       mod-mul byte {m = 2} {c = mask (suc t)} (omega arith) (mask-left (6 - t) (suc t) (omega arith)),
     )
 
+-- A BYTE is the masks of its bits added up
+pub byte-of-bits : (byte : ℕ) → byte < 256 → sumBelow 8 (λ t. bit byte t * mask t) ≡ byte
+byte-of-bits byte l = omega (arith, masks-of-bits byte 7 (omega arith), ap (λ (m : ℕ). byte % m) mask-last, mod-one byte, mod-eq-of-lt l)
+
 -- ---- byte b of a row: pixels 8 * b to 8 * b + 7
 
 module _ (b : ℕ) where
-  from-first : (n : ℕ) (f : ℕ → ℕ) → sumBelow n (λ t. f t * mask (8 * b + t)) ≡ sumBelow n (λ t. f t * mask t)
-  from-first n f = sum-same n _ _ (λ t l. ap (λ (m : ℕ). f t * m) (mask-repeats b t))
-
-  pub byte-room : (f : ℕ → ℕ) → ((t : ℕ) → f t ≤ 1) → (t : ℕ) → t < 8 → sumBelow t (λ i. f i * mask (8 * b + i)) + mask (8 * b + t) < 256
-  byte-room f ones t l = rw (from-first t f, mask-repeats b t) (omega (arith, masks-room f ones t l, mask-left (7 - t) t (omega arith)))
-
-  -- A BIT OF THE MASKS ADDED UP is the one that added its mask
+  -- a bit of the masks added up is the one that added its mask
   pub bit-of-sum : (f : ℕ → ℕ) → ((t : ℕ) → f t ≤ 1) → (t : ℕ) → t < 8 → bit (sumBelow 8 (λ i. f i * mask (8 * b + i))) (8 * b + t) ≡ f t
-  bit-of-sum f ones t l = rw (from-first 8 f, mask-repeats b t) (bit-of-masks f ones t l)
+  bit-of-sum f ones t l =
+      rw (sum-same 8 _ (λ i. f i * mask i) (λ i k. ap (λ (m : ℕ). f i * m) (mask-repeats b i)), mask-repeats b t) (bit-of-masks f ones t l)
 
-  -- A BYTE is the masks of its bits added up
+  -- and the byte is the masks of its bits
   pub sum-of-bits : (byte : ℕ) → byte < 256 → sumBelow 8 (λ t. bit byte (8 * b + t) * mask (8 * b + t)) ≡ byte
   sum-of-bits byte l =
-      sum-same 8 _ _ (λ t k. ap₂ (λ (m n : ℕ). byte / m % 2 * n) (mask-repeats b t) (mask-repeats b t))
-      ∙ omega (arith, masks-of-bits byte 7 (omega arith), ap (λ (m : ℕ). byte % m) mask-last, mod-one byte, mod-eq-of-lt l)
+      sum-same 8 _ _ (λ t k. ap₂ (λ (m n : ℕ). byte / m % 2 * n) (mask-repeats b t) (mask-repeats b t)) ∙ byte-of-bits byte l

@@ -4,11 +4,20 @@ use Prim.Native.Nat.{ℕ, zero, suc, _+_, _*_, _/_, _%_, _≤_, _<_}
 use mathlib.Core.Path.{_≡_}
 use native.Mathlib.Nat.{mul-le-mul, mod-lt, div-lt-iff-lt-mul}
 use native.Mathlib.Omega.{arith}
+use lib.Arith.{digits-lt}
 use Rattle.plates.specs.Planes.{rowBytes}
 
 -- the bytes of row r end where those of the next begin, within n rows
 pub row-ends : (n bytes r : ℕ) → r < n → r * bytes + bytes ≤ n * bytes
 row-ends n bytes r k = omega (arith, mul-le-mul {n₁ = r + 1} {m₁ = bytes} {n₂ = n} {m₂ = bytes} (omega arith) (omega arith))
+
+-- a place of plane p stands before the end of eight planes
+pub place-of-plane : (plane place p : ℕ) → place < plane → p < 8 → p * plane + place < 8 * plane
+place-of-plane plane place p l k = digits-lt k l
+
+-- byte b of row y stands before the plane's end
+pub place-in : (columns rows y b : ℕ) → y < rows → 8 * b < columns → y * rowBytes columns + b < rows * rowBytes columns
+place-in columns rows y b row l = digits-lt row (omega arith)
 
 -- place i of rows of so many columns is in one of the rows, at one of the columns
 columns-some : (columns rows i : ℕ) → i < columns * rows → 0 < columns

@@ -28,14 +28,17 @@ use Rattle.plates.proofs.BitLaws.{first-below, first-is-it}
 
 -- ---- the bits of the planes of cells
 
+-- byte b of row y of plane p stands where the layout has it
+pub byte-placed : (columns rows : ℕ) (cells : List ℕ) (p y b : ℕ) → y < rows → b < rowBytes columns
+    → planesByte columns rows cells ((p * rows + y) * rowBytes columns + b) ≡ planeByte columns (cellAt columns cells y) p b
+unfolding planesByte
+byte-placed columns rows cells p y b row l = rw (digits-div (p * rows + y) l, digits-mod (p * rows + y) l, digits-div p row, digits-mod p row) refl
+
 module _ (columns rows : ℕ) (cells : List ℕ) (p y : ℕ) (plane : p < 8) (row : y < rows) where
   byte-at : (b : ℕ) → b < rowBytes columns
       → getD (planesOf columns rows cells) ((p * rows + y) * rowBytes columns + b) 0 ≡ planeByte columns (cellAt columns cells y) p b
-  unfolding planesOf planesByte
-  byte-at b l =
-      upto-at _ (planesLength columns rows) _ (digits-lt (digits-lt plane row) l)
-      ∙ ap₂ (λ (r c : ℕ). planeByte columns (cellAt columns cells (r % rows)) (r / rows) c) (digits-div (p * rows + y) l) (digits-mod (p * rows + y) l)
-      ∙ ap₂ (λ (u v : ℕ). planeByte columns (cellAt columns cells u) v b) (digits-mod p row) (digits-div p row)
+  unfolding planesOf
+  byte-at b l = upto-at _ (planesLength columns rows) _ (digits-lt (digits-lt plane row) l) ∙ byte-placed columns rows cells p y b row l
 
   bit-of : (x : ℕ) → x < 8 * rowBytes columns
       → bitAt (rowBytes columns) (planesOf columns rows cells) (p * rows + y) x ≡ indicator (inPlane columns (cellAt columns cells y) p x)
@@ -82,12 +85,14 @@ plane-tally columns rows cells size p k =
 
 -- ---- from cells to planes and back
 
+-- where packing is not refused, each cell is the number of a plane
+pub colorant-low : (cells : List ℕ) (i : ℕ) → colorantsOnly cells ≡ true → i < length cells → getD cells i 0 < 8
+unfolding colorantsOnly
+colorant-low cells i only l = omega (arith, leb-true (getD cells i 0) 7 (every-passes (length cells) _ only i l))
+
 module _ (columns rows : ℕ) (cells : List ℕ) (size : length cells ≡ cellsLength columns rows) (only : colorantsOnly cells ≡ true) where
   colorant-below : (y x : ℕ) → y < rows → x < columns → cellAt columns cells y x < 8
-  unfolding colorantsOnly
-  colorant-below y x k l =
-      let within : y * columns + x < length cells = omega (arith, digits-lt k l) in
-      omega (arith, leb-true (cellAt columns cells y x) 7 (every-passes (length cells) _ only (y * columns + x) within))
+  colorant-below y x k l = colorant-low cells (y * columns + x) only (omega (arith, digits-lt k l))
 
   -- each pixel is in the one plane of its cell
   in-one-plane : (y x : ℕ) → y < rows → x < columns → planesWith (rowBytes columns) rows (planesOf columns rows cells) y x ≡ 1

@@ -1,6 +1,6 @@
 -- The laws of specs/Laws.antt, proved: those of the definitions (MaskLaws, PlaneLaws, NineLaws), and from them those of the two calls.
 -- Assumes nothing.
-use mathlib.Core.Path.{_≡_, sym, _∙_}
+use mathlib.Core.Path.{_≡_, refl, sym, _∙_}
 use mathlib.Core.List.{List}
 use Prim.Native.Nat.{ℕ}
 use lib.ListN.{length}
@@ -35,14 +35,14 @@ pack-then-unpack columns rows cells planes memory e long =
     let made = pack-0 columns rows cells planes (kept .0) (kept .1) .1 in
     let back = cells-back columns rows cells (sizes .1) (kept .1) in
     let size = size-right _ _ _ _ _ _ (sizes .0) (planes-length columns rows cells) (long ∙ sizes .1) in
-    let done = unpack-0 columns rows (planesOf columns rows cells) memory size (back .0) (back .1) in
+    let done = unpack-0 columns rows (planesOf columns rows cells) memory size (rw (back .0, back .1) refl) in
     rw (← made) (sym (done .0), sym (done .1) ∙ back .2)
 
 pub unpack-then-pack : UnpackThenPack
 unpack-then-pack columns rows planes cells memory bytes e long =
     let kept = unpack-kept columns rows planes (length cells) e in
     let sizes = size-kept _ _ _ _ _ _ (kept .0) in
-    let made = unpack-0 columns rows planes cells (kept .0) (kept .1) (kept .2) .1 in
+    let made = unpack-0 columns rows planes cells (kept .0) (rw (kept .1, kept .2) refl) .1 in
     let back = planes-back columns rows planes (record { bytes = bytes; size = sizes .1; once = kept .1; clear = kept .2 }) in
     let size = size-right _ _ _ _ _ _ (sizes .0) (cells-length columns rows planes) (long ∙ sizes .1) in
     let done = pack-0 columns rows (cellsOf columns rows planes) memory size (back .0) in

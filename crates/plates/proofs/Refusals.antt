@@ -80,22 +80,15 @@ module _ (columns rows : ℕ) (planes memory : List ℕ) where
   sound = pixelsOnce columns rows planes && paddingClear columns rows planes
 
   module _ (size : unpackSize columns rows (length planes) (length memory) ≡ 0) where
-    unpack-9 : sound ≡ false → (9 ≡ unpackRefusal columns rows planes (length memory)) × (memory ≡ unpacked columns rows planes memory)
+    pub unpack-9 : sound ≡ false → (9 ≡ unpackRefusal columns rows planes (length memory)) × (memory ≡ unpacked columns rows planes memory)
     unfolding unpackRefusal unpacked
     unpack-9 e = content-refused _ sound 8 (cellsOf columns rows planes) memory size e
 
-    pub unpack-9-pixel : pixelsOnce columns rows planes ≡ false → (9 ≡ unpackRefusal columns rows planes (length memory)) × (memory ≡ unpacked columns rows planes memory)
-    unpack-9-pixel e = unpack-9 (rw e)
-
-    module _ (once : pixelsOnce columns rows planes ≡ true) where
-      pub unpack-9-padding : paddingClear columns rows planes ≡ false → (9 ≡ unpackRefusal columns rows planes (length memory)) × (memory ≡ unpacked columns rows planes memory)
-      unpack-9-padding e = unpack-9 (rw (once, e))
-
-      pub unpack-0 : paddingClear columns rows planes ≡ true → (0 ≡ unpackRefusal columns rows planes (length memory)) × (cellsOf columns rows planes ≡ unpacked columns rows planes memory)
-      unfolding unpackRefusal unpacked cellsOf
-      unpack-0 e =
-          content-passed _ sound 8 (cellsOf columns rows planes) memory size (rw (once, e))
-          (upto-length _ (cellsLength columns rows) ∙ sym (size-kept _ _ _ _ _ _ size .2))
+    pub unpack-0 : sound ≡ true → (0 ≡ unpackRefusal columns rows planes (length memory)) × (cellsOf columns rows planes ≡ unpacked columns rows planes memory)
+    unfolding unpackRefusal unpacked cellsOf
+    unpack-0 e =
+        content-passed _ sound 8 (cellsOf columns rows planes) memory size e
+        (upto-length _ (cellsLength columns rows) ∙ sym (size-kept _ _ _ _ _ _ size .2))
 
   pub unpack-size : {r : ℕ} → r ≡ unpackSize columns rows (length planes) (length memory) → (r ≡ 0 → ⊥)
       → (r ≡ unpackRefusal columns rows planes (length memory)) × (memory ≡ unpacked columns rows planes memory)

@@ -41,14 +41,10 @@ inPlane columns cell p x = ltb x columns && eqb (cell x) p
 
 -- Rules 8.2 and 8.5, byte b of a row of plane p: the masks of those of its eight pixels that have the colorant p.
 -- Rule 8.4: a pixel past the row's columns adds no mask.
-unfoldable pub masksUpTo : ℕ → (ℕ → ℕ) → ℕ → ℕ → ℕ → ℕ
-masksUpTo columns cell p b pixels = sumBelow pixels (λ t. indicator (inPlane columns cell p (8 * b + t)) * mask (8 * b + t))
-
 unfoldable pub planeByte : ℕ → (ℕ → ℕ) → ℕ → ℕ → ℕ
-unfolding masksUpTo
-planeByte columns cell p b = masksUpTo columns cell p b 8
+planeByte columns cell p b = sumBelow 8 (λ t. indicator (inPlane columns cell p (8 * b + t)) * mask (8 * b + t))
 
--- place i of the planes is byte i % rowBytes of row i / rowBytes, which is row y of plane p
+-- byte i of the planes is byte i % rowBytes of row i / rowBytes, which is row y of plane p
 unfoldable pub planesByte : ℕ → ℕ → List ℕ → ℕ → ℕ
 planesByte columns rows cells i =
     planeByte columns (cellAt columns cells (i / rowBytes columns % rows)) (i / rowBytes columns / rows) (i % rowBytes columns)

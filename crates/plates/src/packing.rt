@@ -1,9 +1,11 @@
 // Packing: from cells to planes.
 ghost use mathlib.Core.Path.{_≡_};
-ghost use Prim.Native.Nat.{_+_, _*_, _≤_};
+ghost use mathlib.Core.Bool.{true};
+ghost use mathlib.Core.Logic.{_⊎_};
+ghost use Prim.Native.Nat.{_+_, _*_, _≤_, _<_};
 ghost use lib.ListN.{length, getD};
-ghost use Rattle.arith.specs.Run.{upto};
-ghost use Rattle.plates.specs.Planes.{rowBytes, planesLength, cellsLength, planeByte, planesOf, colorantsOnly};
+ghost use Rattle.plates.specs.Planes.{rowBytes, planesLength, planesOf, colorantsOnly};
+ghost use Rattle.plates.specs.Places.{Packable, PackedTo, wordOf, stored};
 ghost use Rattle.plates.specs.Refusals.{packRefusal, packed};
 use crate::lengths_refusal;
 use crate::mask_of;
@@ -34,74 +36,88 @@ pub fn pack(columns: u32, rows: u32, cells: &[u8], planes: &mut [u8]) -> u32
     0
 }
 
-// Whether no cell is above 7.
+// Whether no cell is above 7. The highest is looked for, without an early end, so that the compiler
+// compares many cells at once.
 fn colorants_only(cells: &[u8]) -> bool
     ensures { λ r. ⌜ r ≡ colorantsOnly (now (cells .entry)) ⌝ }
 {
+    let mut highest = 0;
     for i in 0..cells.len() {
-        if 7 < cells[i] {
-            return false;
+        let cell = cells[i];
+        if highest < cell {
+            highest = cell;
         }
     }
-    true
+    highest <= 7
 }
 
-// Writes the rows of all planes one after the other: those of colorant 0 first.
+// Writes the rows of the window one after the other, each in all eight planes.
 fn write_planes(columns: usize, rows: usize, cells: &[u8], planes: &mut [u8])
-    requires { ⌜ (columns ≤ 65536) × (rows ≤ 65536) × (length (now cells) ≡ cellsLength columns rows) × (length (now planes) ≡ planesLength columns rows) ⌝ }
+    requires { ⌜ Packable columns rows (now cells) × (length (now planes) ≡ planesLength columns rows) ⌝ }
     ensures { λ _. ⌜ now (planes .exit) ≡ planesOf columns rows (now (cells .entry)) ⌝ }
 {
+    for y in 0..rows {
+        write_row(columns, rows, cells, y, planes);
+    }
+}
+
+// Writes row y in all eight planes, place by place. Places of eight pixels, which all are but perhaps a
+// row's last, are told apart, so that the compiler sees the eight masks.
+fn write_row(columns: usize, rows: usize, cells: &[u8], y: usize, planes: &mut [u8])
+    requires { ⌜ Packable columns rows (now cells) × (y < rows) × PackedTo columns rows (now cells) (now planes) (y * rowBytes columns) ⌝ }
+    ensures { λ _. ⌜ PackedTo columns rows (now (cells .entry)) (now (planes .exit)) (y * rowBytes columns + rowBytes columns) ⌝ }
+{
+    let full = columns / 8;
+    for b in 0..full {
+        write_place(columns, rows, cells, y, b, 8, planes);
+    }
+    let pixels = columns % 8;
+    if pixels != 0 {
+        write_place(columns, rows, cells, y, full, pixels, planes);
+    }
+}
+
+// Writes byte b of row y in all eight planes: so many pixels, which are eight or the row's last.
+fn write_place(
+    columns: usize,
+    rows: usize,
+    cells: &[u8],
+    y: usize,
+    b: usize,
+    pixels: usize,
+    planes: &mut [u8],
+)
+    requires { ⌜ Packable columns rows (now cells) × (y < rows) × (8 * b < columns) × (8 * b + pixels ≤ columns) × (pixels ≤ 8) × ((pixels ≡ 8) ⊎ (8 * b + pixels ≡ columns)) × PackedTo columns rows (now cells) (now planes) (y * rowBytes columns + b) ⌝ }
+    ensures { λ _. ⌜ PackedTo columns rows (now (cells .entry)) (now (planes .exit)) (y * rowBytes columns + b + 1) ⌝ }
+{
     let bytes = row_bytes(columns);
-    let all_rows = 8 * rows;
-    let mut place = 0;
-    for row in 0..all_rows {
-        let first = row % rows * columns;
-        let last = first + columns;
-        let next = place + bytes;
-        write_row(
-            &cells[first..last],
-            (row / rows) as u8,
-            &mut planes[place..next],
-        );
-        place = next;
-    }
+    let plane = rows * bytes;
+    let word = word_of(cells, y * columns + 8 * b, pixels);
+    put_word(word, plane, y * bytes + b, planes);
 }
 
-// Writes a row of the plane of a colorant, from the cells of that row.
-fn write_row(cells: &[u8], colorant: u8, out: &mut [u8])
-    requires { ⌜ (length (now cells) ≤ 65536) × (length (now out) ≡ rowBytes (length (now cells))) ⌝ }
-    ensures { λ _. ⌜ now (out .exit) ≡ upto (planeByte (length (now (cells .entry))) (λ x. getD (now (cells .entry)) x 0) colorant) (length (now (out .entry))) ⌝ }
+// So many neighbouring cells in one number, from the first on: for each its mask, times 256 to the power
+// of its colorant. So byte p has the masks of those that are p.
+fn word_of(cells: &[u8], first: usize, pixels: usize) -> u64
+    requires { ⌜ (pixels ≤ 8) × (first + pixels ≤ length (now cells)) × (colorantsOnly (now cells) ≡ true) ⌝ }
+    ensures { λ r. ⌜ r ≡ wordOf (λ t. getD (now (cells .entry)) (first + t) 0) pixels ⌝ }
 {
-    for b in 0..out.len() {
-        out[b] = byte_of(cells, colorant, b);
+    let mut word = 0;
+    for t in 0..pixels {
+        let shift = 8 * cells[first + t];
+        word += (mask_of(t) as u64) << shift;
     }
+    word
 }
 
-// Byte b of a row of the plane of a colorant. Bytes of eight pixels, which all are but perhaps a row's
-// last, are told apart, so that none of their places is tested.
-fn byte_of(cells: &[u8], colorant: u8, b: usize) -> u8
-    requires { ⌜ (length (now cells) ≤ 65536) × (8 * b ≤ length (now cells)) ⌝ }
-    ensures { λ r. ⌜ r ≡ planeByte (length (now (cells .entry))) (λ x. getD (now (cells .entry)) x 0) colorant b ⌝ }
+// Stores the eight bytes of a word at a place of the planes, byte p in plane p.
+fn put_word(word: u64, plane: usize, place: usize, planes: &mut [u8])
+    requires { ⌜ (place < plane) × (length (now planes) ≡ 8 * plane) ⌝ }
+    ensures { λ _. ⌜ now (planes .exit) ≡ stored word plane place (now (planes .entry)) 8 ⌝ }
 {
-    if b < cells.len() / 8 {
-        return masks_of(cells, colorant, b, 8);
+    let mut rest = word;
+    for p in 0..8 {
+        planes[p * plane + place] = (rest % 256) as u8;
+        rest = rest / 256;
     }
-    masks_of(cells, colorant, b, cells.len() % 8)
-}
-
-// The masks of those of a byte's first pixels that have the colorant, added up. The loop goes over all
-// eight places, so that the compiler unrolls it and each mask is a constant.
-fn masks_of(cells: &[u8], colorant: u8, b: usize, pixels: usize) -> u8
-    requires { ⌜ (length (now cells) ≤ 65536) × (8 * b + pixels ≤ length (now cells)) ⌝ }
-    ensures { λ r. ⌜ r ≡ planeByte (8 * b + pixels) (λ x. getD (now (cells .entry)) x 0) colorant b ⌝ }
-{
-    let mut byte = 0;
-    for t in 0..8 {
-        if t < pixels {
-            let x = 8 * b + t;
-            let has = (cells[x] == colorant) as u8;
-            byte += has * mask_of(x);
-        }
-    }
-    byte
 }

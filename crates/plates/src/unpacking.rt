@@ -1,12 +1,11 @@
 // Unpacking: from planes to cells.
 ghost use mathlib.Core.Path.{_≡_};
-ghost use Prim.Native.Nat.{_+_, _-_, _*_, _/_, _≤_, _<_};
-ghost use lib.Dec.{eqb};
-ghost use lib.ListN.{length, getD};
+ghost use mathlib.Core.Bool.{true, _&&_};
+ghost use Prim.Native.Nat.{_+_, _*_, _≤_, _<_};
+ghost use lib.ListN.{length};
 ghost use Rattle.arith.specs.Run.{upto};
-ghost use Rattle.arith.specs.Every.{every};
-ghost use Rattle.plates.specs.Masks.{bit};
-ghost use Rattle.plates.specs.Planes.{rowBytes, planesLength, cellsLength, bitAt, planesWith, colorantOf, cellsOf, pixelsOnce, paddingClear};
+ghost use Rattle.plates.specs.Planes.{rowBytes, planesLength, cellsLength, cellsOf, pixelsOnce, paddingClear};
+ghost use Rattle.plates.specs.Places.{byteAt, onceAt, rowOnce, fullMask, colorantAt, rowOf, sumAt};
 ghost use Rattle.plates.specs.Refusals.{unpackRefusal, unpacked};
 use crate::lengths_refusal;
 use crate::mask_of;
@@ -30,132 +29,138 @@ pub fn unpack(columns: u32, rows: u32, planes: &[u8], cells: &mut [u8]) -> u32
     if refused != 0 {
         return refused;
     }
-    if !pixels_once(wide, high, planes) {
-        return 9;
-    }
-    if !padding_clear(wide, high, planes) {
+    if !planes_sound(wide, high, planes) {
         return 9;
     }
     write_cells(wide, high, planes, cells);
     0
 }
 
-// Whether each pixel of a window is in exactly one plane.
-fn pixels_once(columns: usize, rows: usize, planes: &[u8]) -> bool
+// Whether each pixel of a window is in exactly one plane, and no bit past the last column is set.
+fn planes_sound(columns: usize, rows: usize, planes: &[u8]) -> bool
     requires { ⌜ (columns ≤ 65536) × (length (now planes) ≡ planesLength columns rows) ⌝ }
-    ensures { λ r. ⌜ r ≡ pixelsOnce columns rows (now (planes .entry)) ⌝ }
+    ensures { λ r. ⌜ r ≡ pixelsOnce columns rows (now (planes .entry)) && paddingClear columns rows (now (planes .entry)) ⌝ }
 {
     let bytes = row_bytes(columns);
-    for y in 0..rows {
-        if !row_once(columns, bytes, rows, planes, y) {
-            return false;
-        }
-    }
-    true
-}
-
-// Whether each pixel of row y is in exactly one plane.
-fn row_once(columns: usize, bytes: usize, rows: usize, planes: &[u8], y: usize) -> bool
-    requires { ⌜ (bytes ≡ rowBytes columns) × (y < rows) × (length (now planes) ≡ 8 * rows * bytes) ⌝ }
-    ensures { λ r. ⌜ r ≡ every columns (λ x. eqb (planesWith bytes rows (now (planes .entry)) y x) 1) ⌝ }
-{
-    for x in 0..columns {
-        if planes_with(bytes, rows, planes, y, x) != 1 {
-            return false;
-        }
-    }
-    true
-}
-
-// In how many planes pixel (x, y) is. From plane to plane its row begins a plane's bytes further on.
-fn planes_with(bytes: usize, rows: usize, planes: &[u8], y: usize, x: usize) -> u8
-    requires { ⌜ (x / 8 < bytes) × (y < rows) × (length (now planes) ≡ 8 * rows * bytes) ⌝ }
-    ensures { λ r. ⌜ r ≡ planesWith bytes rows (now (planes .entry)) y x ⌝ }
-{
     let plane = rows * bytes;
-    let mut start = y * bytes;
-    let mut count = 0;
-    for p in 0..8u8 {
-        count += bit_at(planes, start, x);
-        start += plane;
-    }
-    count
-}
-
-// The bit of pixel x in the row of the planes that begins at start.
-fn bit_at(planes: &[u8], start: usize, x: usize) -> u8
-    requires { ⌜ start + x / 8 < length (now planes) ⌝ }
-    ensures { λ r. ⌜ (r ≡ bit (getD (now (planes .entry)) (start + x / 8) 0) x) × (r ≤ 1) ⌝ }
-{
-    planes[start + x / 8] / mask_of(x) % 2
-}
-
-// Whether no bit past the last column is set, in any row of the planes.
-fn padding_clear(columns: usize, rows: usize, planes: &[u8]) -> bool
-    requires { ⌜ (columns ≤ 65536) × (rows ≤ 65536) × (length (now planes) ≡ planesLength columns rows) ⌝ }
-    ensures { λ r. ⌜ r ≡ paddingClear columns rows (now (planes .entry)) ⌝ }
-{
-    let bytes = row_bytes(columns);
-    let all_rows = 8 * rows;
-    for row in 0..all_rows {
-        if !row_clear(columns, bytes, planes, row) {
+    for y in 0..rows {
+        if !row_sound(columns, plane, planes, y * bytes) {
             return false;
         }
     }
     true
 }
 
-// Whether no bit past the last column is set in a row of the planes. How many there are is worked out so
-// that the compiler sees that they are fewer than eight.
-fn row_clear(columns: usize, bytes: usize, planes: &[u8], row: usize) -> bool
-    requires { ⌜ (columns ≤ 65536) × (bytes ≡ rowBytes columns) × (row * bytes + bytes ≤ length (now planes)) ⌝ }
-    ensures { λ r. ⌜ r ≡ every (8 * bytes - columns) (λ t. eqb (bitAt bytes (now (planes .entry)) row (columns + t)) 0) ⌝ }
+// The same of the row that begins at a place of the planes. All places of eight pixels are tested without
+// an early end, so that the compiler tests many at once.
+fn row_sound(columns: usize, plane: usize, planes: &[u8], start: usize) -> bool
+    requires { ⌜ (start + rowBytes columns ≤ plane) × (length (now planes) ≡ 8 * plane) ⌝ }
+    ensures { λ r. ⌜ r ≡ rowOnce columns plane (now (planes .entry)) start ⌝ }
 {
-    let padding = (8 - columns % 8) % 8;
-    for t in 0..padding {
-        if bit_at(planes, row * bytes, columns + t) != 0 {
-            return false;
-        }
+    let full = columns / 8;
+    let mut sound = true;
+    for b in 0..full {
+        sound = sound & once_at(plane, planes, start + b, 8);
     }
-    true
+    let pixels = columns % 8;
+    if pixels == 0 {
+        return sound;
+    }
+    sound & once_at(plane, planes, start + full, pixels)
+}
+
+// Whether each of a place's first pixels is in exactly one plane, and each after them in none: the eight
+// bytes' sum and their union both are these pixels' masks. If the union is, each of them is in a plane
+// and no bit after them is set; if the sum is too, none is in two planes.
+fn once_at(plane: usize, planes: &[u8], place: usize, pixels: usize) -> bool
+    requires { ⌜ (pixels ≤ 8) × (place < plane) × (length (now planes) ≡ 8 * plane) ⌝ }
+    ensures { λ r. ⌜ r ≡ onceAt plane (now (planes .entry)) place pixels ⌝ }
+{
+    let full = full_mask(pixels);
+    let mut sum = 0;
+    let mut union = 0;
+    for p in 0..8 {
+        let byte = byte_at(plane, planes, place, p) as u16;
+        sum += byte;
+        union = union | byte;
+    }
+    (sum == full) & (union == full)
+}
+
+// The byte of plane p at a place.
+fn byte_at(plane: usize, planes: &[u8], place: usize, p: usize) -> u8
+    requires { ⌜ (place < plane) × (length (now planes) ≡ 8 * plane) × (p < 8) ⌝ }
+    ensures { λ r. ⌜ r ≡ byteAt plane (now (planes .entry)) place p ⌝ }
+{
+    planes[p * plane + place]
+}
+
+// The masks of a place's first pixels, added up.
+fn full_mask(pixels: usize) -> u16
+    requires { ⌜ pixels ≤ 8 ⌝ }
+    ensures { λ r. ⌜ r ≡ fullMask pixels ⌝ }
+{
+    256 - (256 >> pixels)
 }
 
 // Writes the colorants of all pixels row by row.
 fn write_cells(columns: usize, rows: usize, planes: &[u8], cells: &mut [u8])
-    requires { ⌜ (columns ≤ 65536) × (length (now planes) ≡ planesLength columns rows) × (length (now cells) ≡ cellsLength columns rows) ⌝ }
+    requires { ⌜ (columns ≤ 65536) × (length (now planes) ≡ planesLength columns rows) × (length (now cells) ≡ cellsLength columns rows) × (pixelsOnce columns rows (now planes) && paddingClear columns rows (now planes) ≡ true) ⌝ }
     ensures { λ _. ⌜ now (cells .exit) ≡ cellsOf columns rows (now (planes .entry)) ⌝ }
 {
     let bytes = row_bytes(columns);
-    let mut place = 0;
-    for y in 0..rows {
-        let next = place + columns;
-        write_row(bytes, rows, planes, y, &mut cells[place..next]);
-        place = next;
-    }
-}
-
-// Writes the colorants of the pixels of row y.
-fn write_row(bytes: usize, rows: usize, planes: &[u8], y: usize, out: &mut [u8])
-    requires { ⌜ (bytes ≡ rowBytes (length (now out))) × (y < rows) × (length (now planes) ≡ 8 * rows * bytes) ⌝ }
-    ensures { λ _. ⌜ now (out .exit) ≡ upto (colorantOf bytes rows (now (planes .entry)) y) (length (now (out .entry))) ⌝ }
-{
-    for x in 0..out.len() {
-        out[x] = colorant_of(bytes, rows, planes, y, x);
-    }
-}
-
-// The first plane that pixel (x, y) is in, or 8. It goes from plane to plane as planes_with does.
-fn colorant_of(bytes: usize, rows: usize, planes: &[u8], y: usize, x: usize) -> u8
-    requires { ⌜ (x / 8 < bytes) × (y < rows) × (length (now planes) ≡ 8 * rows * bytes) ⌝ }
-    ensures { λ r. ⌜ r ≡ colorantOf bytes rows (now (planes .entry)) y x ⌝ }
-{
     let plane = rows * bytes;
-    let mut start = y * bytes;
-    for p in 0..8u8 {
-        if bit_at(planes, start, x) == 1 {
-            return p;
-        }
-        start += plane;
+    let mut first = 0;
+    for y in 0..rows {
+        let next = first + columns;
+        write_row(plane, planes, y * bytes, &mut cells[first..next]);
+        first = next;
     }
-    8
+}
+
+// Writes the colorants of the row that begins at a place of the planes.
+fn write_row(plane: usize, planes: &[u8], start: usize, out: &mut [u8])
+    requires { ⌜ (start + rowBytes (length (now out)) ≤ plane) × (length (now planes) ≡ 8 * plane) × (rowOnce (length (now out)) plane (now planes) start ≡ true) ⌝ }
+    ensures { λ _. ⌜ now (out .exit) ≡ upto (rowOf plane (now (planes .entry)) start) (length (now (out .entry))) ⌝ }
+{
+    let columns = out.len();
+    let full = columns / 8;
+    for b in 0..full {
+        let first = 8 * b;
+        let next = first + 8;
+        write_pixels(plane, planes, start + b, &mut out[first..next]);
+    }
+    let pixels = columns % 8;
+    if pixels != 0 {
+        let first = 8 * full;
+        let next = first + pixels;
+        write_pixels(plane, planes, start + full, &mut out[first..next]);
+    }
+}
+
+// Writes the colorants of a place's first pixels. Since each is in one plane, the bytes of several planes
+// add up to their union; and a colorant has the bit 1, 2 or 4 where its pixel is in one of the planes
+// whose numbers have that bit.
+fn write_pixels(plane: usize, planes: &[u8], place: usize, out: &mut [u8])
+    requires { ⌜ (place < plane) × (length (now planes) ≡ 8 * plane) × (length (now out) ≤ 8) × (onceAt plane (now planes) place (length (now out)) ≡ true) ⌝ }
+    ensures { λ _. ⌜ now (out .exit) ≡ upto (colorantAt plane (now (planes .entry)) place) (length (now (out .entry))) ⌝ }
+{
+    let ones = sum_of(plane, planes, place, 1, 3, 5, 7);
+    let twos = sum_of(plane, planes, place, 2, 3, 6, 7);
+    let fours = sum_of(plane, planes, place, 4, 5, 6, 7);
+    for t in 0..out.len() {
+        let mask = mask_of(t);
+        out[t] = ones / mask % 2 + 2 * (twos / mask % 2) + 4 * (fours / mask % 2);
+    }
+}
+
+// The bytes of four planes at a place, added up.
+fn sum_of(plane: usize, planes: &[u8], place: usize, p: usize, q: usize, r: usize, s: usize) -> u8
+    requires { ⌜ (place < plane) × (length (now planes) ≡ 8 * plane) × (p < 8) × (q < 8) × (r < 8) × (s < 8) × (sumAt plane (now planes) place p q r s < 256) ⌝ }
+    ensures { λ sum. ⌜ sum ≡ sumAt plane (now (planes .entry)) place p q r s ⌝ }
+{
+    byte_at(plane, planes, place, p)
+        + byte_at(plane, planes, place, q)
+        + byte_at(plane, planes, place, r)
+        + byte_at(plane, planes, place, s)
 }

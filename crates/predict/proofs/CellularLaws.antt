@@ -17,7 +17,7 @@ use borrow.Author.Tests.{lt-ltb, le-ltb, le-leb, lt-leb}
 use Rattle.arith.specs.Order.{placeAmong}
 use Rattle.arith.specs.Run.{upto}
 use Rattle.arith.specs.Sum.{sumBelow, indicator}
-use Rattle.arith.proofs.BinaryLaws.{digits-below, digit-of}
+use Rattle.arith.proofs.DigitLaws.{digits-below, digit-of}
 use Rattle.arith.proofs.OrderLaws.{place-below, ordered-below, ordered-place, place-ordered, order-falls, order-sum, order-same}
 use Rattle.arith.proofs.RunLaws.{upto-at}
 use Rattle.arith.proofs.SumLaws.{sum-same, sum-term, sum-front, steps-from, steps-counted}
@@ -106,7 +106,7 @@ module _ (c : ℕ → ℕ) where
 
   pub set-below : (k : ℕ) → k < 8 → setAt c k ≤ 255
   unfolding reached
-  set-below k l = omega (arith, set-digits k l, digits-below (reached k) (λ j. indicator-le (leb (placeAmong 8 c j) k)) 8)
+  set-below k l = omega (arith, set-digits k l, digits-below 2 (reached k) (λ j. omega (arith, indicator-le (leb (placeAmong 8 c j) k))) 8)
 
   pub set-above : (k : ℕ) → 1 ≤ setAt c k
   unfolding setAlong
@@ -116,7 +116,7 @@ module _ (c : ℕ → ℕ) where
   unfolding reached
   set-holds k j l m =
       ap (λ (t : ℕ). eqb (t / 2 ^ j % 2) 1) (set-digits k l)
-      ∙ ap (λ (d : ℕ). eqb d 1) (digit-of (reached k) (λ i. indicator-le (leb (placeAmong 8 c i) k)) 8 j m)
+      ∙ ap (λ (d : ℕ). eqb d 1) (digit-of 2 (reached k) (λ i. omega (arith, indicator-le (leb (placeAmong 8 c i) k))) 8 j m)
       ∙ told (leb (placeAmong 8 c j) k)
     where
       told : (b : Bool) → eqb (indicator b) 1 ≡ b

@@ -6,12 +6,38 @@ use crate::guarded::{blank, Guarded};
 use crate::subject;
 use cavzemil_plain::random::Random;
 
+/// Columns of small windows: fewer than a byte has bits, as many, and more.
+const SMALL_WIDTHS: [u32; 5] = [1, 7, 8, 9, 17];
+
+/// Columns and rows of large windows, as wide and as tall as they may be among them.
+const LARGE_SIZES: [(u32, u32); 9] = [
+    (65_536, 2),
+    (2, 65_536),
+    (65_535, 1),
+    (1, 65_535),
+    (1003, 501),
+    (4096, 64),
+    (65_536, 3),
+    (3, 65_536),
+    (1021, 257),
+];
+
 /// Which way a plate goes.
 #[derive(Clone, Copy, Debug)]
 enum Way {
     Pack,
     Unpack,
 }
+
+/// Both ways.
+const WAYS: [Way; 2] = [Way::Pack, Way::Unpack];
+
+/// An implementation's pack and its unpack.
+type Calls = [fn(u32, u32, &[u8], &mut [u8]) -> u32; 2];
+
+/// Those of both implementations.
+const PLAIN: Calls = [cavzemil_plain::pack, cavzemil_plain::unpack];
+const COMPILED: Calls = [subject::pack, subject::unpack];
 
 /// A call of pack or unpack. The cells are drawn from a seed; then bits of the input are turned over, each
 /// damage naming a place and a mask.
@@ -70,6 +96,21 @@ impl PlateCase {
         }
         handed
     }
+
+    /// The output as it is handed over.
+    fn unwritten(&self) -> Guarded<u8> {
+        blank(self.output.places(self.stated().1))
+    }
+
+    /// An implementation's answer, and the output that it leaves.
+    fn answer(&self, [pack, unpack]: Calls, input: &[u8]) -> (u32, Guarded<u8>) {
+        let call = match self.way {
+            Way::Pack => pack,
+            Way::Unpack => unpack,
+        };
+        let mut output = self.unwritten();
+        (call(self.columns, self.rows, input, output.lent_mut()), output)
+    }
 }
 
 impl Case for PlateCase {
@@ -86,20 +127,10 @@ impl Case for PlateCase {
     }
 
     fn mismatch(&self) -> Option<Mismatch> {
-        let PlateCase { columns, rows, .. } = *self;
         let input = Guarded::new(&self.handed(), 128);
-        let mut expected = blank(self.output.places(self.stated().1));
-        let (lent, mut found) = (input.clone(), expected.clone());
-        let (plain, compiled) = match self.way {
-            Way::Pack => (
-                cavzemil_plain::pack(columns, rows, input.lent(), expected.lent_mut()),
-                subject::pack(columns, rows, lent.lent(), found.lent_mut()),
-            ),
-            Way::Unpack => (
-                cavzemil_plain::unpack(columns, rows, input.lent(), expected.lent_mut()),
-                subject::unpack(columns, rows, lent.lent(), found.lent_mut()),
-            ),
-        };
+        let lent = input.clone();
+        let (plain, expected) = self.answer(PLAIN, input.lent());
+        let (compiled, found) = self.answer(COMPILED, lent.lent());
         differing(plain, compiled)
             .or_else(|| expected.mismatch(&found, "output"))
             .or_else(|| input.mismatch(&lent, "input"))
@@ -119,11 +150,30 @@ impl Case for PlateCase {
     }
 }
 
+/// Puts a damaged case to both implementations, and fails unless they answer 9 and write nothing (rules 11.3
+/// and 11.13).
+fn check_refused(case: &PlateCase) {
+    compare(case);
+    let (answer, output) = case.answer(PLAIN, &case.handed());
+    let unwritten = case.unwritten().mismatch(&output, "output").is_none();
+    assert!(answer == 9 && unwritten, "this is to be refused:\n{}", case.words());
+}
+
+/// Puts whole cells and their planes to both implementations, and fails unless the cells come back (rule
+/// 8.7).
+fn check_both_ways(columns: u32, rows: u32, seed: u64) {
+    let [pack, unpack] = WAYS.map(|way| PlateCase::whole(way, columns, rows, seed));
+    compare(&pack);
+    compare(&unpack);
+    let (answer, cells) = unpack.answer(PLAIN, &unpack.handed());
+    assert!(answer == 0 && cells.lent() == pack.content(), "the cells do not come back:\n{}", unpack.words());
+}
+
 /// Sizes at the limit and beyond it, with every pair of lengths.
 #[test]
 fn limits_of_plates() {
     let sizes = [0, 1, 65_535, 65_536, 65_537, 1 << 31, u32::MAX];
-    for way in [Way::Pack, Way::Unpack] {
+    for way in WAYS {
         for (columns, rows) in sizes.into_iter().flat_map(|c| sizes.map(|r| (c, r))) {
             for (input, output) in Length::ALL.into_iter().flat_map(|i| Length::ALL.map(|o| (i, o))) {
                 compare(&PlateCase { input, output, ..PlateCase::whole(way, columns, rows, 1) });
@@ -135,7 +185,7 @@ fn limits_of_plates() {
 /// Wrong lengths and bad content, of which the lengths are refused.
 #[test]
 fn lengths_and_damage_at_once() {
-    for way in [Way::Pack, Way::Unpack] {
+    for way in WAYS {
         for (input, output) in Length::ALL.into_iter().flat_map(|i| Length::ALL.map(|o| (i, o))) {
             for columns in 0..=17 {
                 let damage = vec![(0, 255), (3, 128)];
@@ -145,19 +195,80 @@ fn lengths_and_damage_at_once() {
     }
 }
 
-/// Each bit of small plates turned over by itself, padding bits too.
+/// Whole plates of every narrow width.
+#[test]
+fn every_narrow_width() {
+    for (columns, rows) in (0..=70).flat_map(|columns| (0..=3).map(move |rows| (columns, rows))) {
+        check_both_ways(columns, rows, u64::from(columns * 4 + rows));
+    }
+}
+
+/// Each bit of small plates turned over by itself, padding bits too. A cell's three lowest bits give another
+/// colorant; all others are refused.
 #[test]
 fn every_bit_of_small_plates_turned_over() {
-    for way in [Way::Pack, Way::Unpack] {
+    for way in WAYS {
         for (columns, rows) in (0..=17).flat_map(|columns| (0..=2).map(move |rows| (columns, rows))) {
             let whole = PlateCase::whole(way, columns, rows, u64::from(columns * 3 + rows));
             compare(&whole);
             for place in 0..whole.stated().0 as u32 {
                 for bit in 0..8 {
-                    let damage = vec![(place, 1 << bit)];
-                    compare(&PlateCase { damage, ..whole.clone() });
+                    let case = PlateCase { damage: vec![(place, 1 << bit)], ..whole.clone() };
+                    match way {
+                        Way::Pack if bit < 3 => compare(&case),
+                        _ => check_refused(&case),
+                    }
                 }
             }
+        }
+    }
+}
+
+/// Every two and every three bits of a lone place turned over. Two may move a pixel to another plane; after
+/// three, a pixel or padding is always wrong.
+#[test]
+fn bits_of_a_lone_place_turned_over() {
+    let bit = |number: u32| (number / 8, 1 << (number % 8));
+    for columns in [1, 5, 8] {
+        let whole = PlateCase::whole(Way::Unpack, columns, 1, 44);
+        for (second, first) in (0..64).flat_map(|second| (0..second).map(move |first| (second, first))) {
+            compare(&PlateCase { damage: vec![bit(first), bit(second)], ..whole.clone() });
+            for third in 0..first {
+                let damage = vec![bit(first), bit(second), bit(third)];
+                check_refused(&PlateCase { damage, ..whole.clone() });
+            }
+        }
+    }
+}
+
+/// The damage that turns a bit of a place over, in each plane where it is set or in each where it is not.
+fn turned(planes: &[u8], place: usize, mask: u8, set: bool) -> Vec<(u32, u8)> {
+    let bytes = (place..planes.len()).step_by(planes.len() / 8);
+    bytes.filter(|byte| (planes[*byte] & mask != 0) == set).map(|byte| (byte as u32, mask)).collect()
+}
+
+/// Damages of a place that one test alone would miss. The first pixel, or the first two, are set in more
+/// planes: the union stays, and the sum grows by 256, which its lowest eight bits do not show. Or a pixel is
+/// in no plane, and the bit after it in two more, which keeps the sum, or in one more, which keeps how many
+/// bits are set.
+fn hidden_damages(planes: &[u8], place: usize) -> Vec<Vec<(u32, u8)>> {
+    let cleared = |mask| turned(planes, place, mask, true);
+    let added = |mask, times| turned(planes, place, mask, false)[..times].to_vec();
+    let mut damages = vec![added(128, 2), [added(128, 1), added(64, 2)].concat()];
+    for mask in (1..8).map(|bit| 1 << bit) {
+        damages.extend([2, 1].map(|times| [cleared(mask), added(mask / 2, times)].concat()));
+    }
+    damages
+}
+
+/// Such damages at each place by itself, of small planes and of some that are wide.
+#[test]
+fn damages_that_a_sum_or_a_union_hides() {
+    for columns in SMALL_WIDTHS.into_iter().chain([531]) {
+        let whole = PlateCase::whole(Way::Unpack, columns, 2, 45);
+        let planes = whole.content();
+        for damage in (0..planes.len() / 8).flat_map(|place| hidden_damages(&planes, place)) {
+            check_refused(&PlateCase { damage, ..whole.clone() });
         }
     }
 }
@@ -167,7 +278,7 @@ fn every_bit_of_small_plates_turned_over() {
 fn any_plates() {
     let mut random = Random::new(41);
     for _ in 0..80_000 {
-        let way = random.one_of(&[Way::Pack, Way::Unpack]);
+        let way = random.one_of(&WAYS);
         let (columns, rows) = (random.between(0, 70), random.between(0, 20));
         let damages = random.one_of(&[0, 0, 0, 0, 1, 1, 2, 9]);
         let damage = (0..damages).map(|_| (random.bits() as u32, 1 << random.between(0, 7))).collect();
@@ -190,12 +301,24 @@ fn pixels_moved_to_another_plane() {
     }
 }
 
-/// Plates as wide, and as tall, as they may be.
+/// Large plates, whole.
 #[test]
-fn wide_and_tall_plates() {
-    for way in [Way::Pack, Way::Unpack] {
-        for (columns, rows) in [(65_536, 2), (2, 65_536), (65_535, 1), (1, 65_535), (1003, 501)] {
-            compare(&PlateCase::whole(way, columns, rows, 5));
+fn large_plates() {
+    for (columns, rows) in LARGE_SIZES {
+        check_both_ways(columns, rows, 5);
+    }
+}
+
+/// Large plates damaged at their end: in the last cell, and in the last bit of each plane, which may be
+/// padding.
+#[test]
+fn large_plates_damaged_at_their_end() {
+    for (columns, rows) in LARGE_SIZES {
+        let [pack, unpack] = WAYS.map(|way| PlateCase::whole(way, columns, rows, 6));
+        check_refused(&PlateCase { damage: vec![(columns * rows - 1, 8)], ..pack });
+        for planes in 1..=8 {
+            let last = planes * rows * columns.div_ceil(8) - 1;
+            check_refused(&PlateCase { damage: vec![(last, 1)], ..unpack.clone() });
         }
     }
 }

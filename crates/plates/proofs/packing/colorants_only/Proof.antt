@@ -1,33 +1,24 @@
--- `plates::packing::colorants_only` meets its contract. The measure is how many cells are left. Assumes nothing.
-use Prim.Native.Nat.{_-_, _≤_, _<_}
-use lib.Dec.{leb}
-use lib.ListN.{length, getD}
-use native.Mathlib.Omega.{arith}
+-- `plates::packing::colorants_only` meets its contract: the highest cell so far is at most 7 exactly where each is. The measure is how many cells are left.
+-- Assumes nothing.
+use Prim.Native.Nat.{_-_}
+use mathlib.Core.Logic.{⊎-elim}
+use lib.ListN.{length}
 use borrow.Author.Needs.{needs}
-use borrow.Author.Tests.{le-leb, lt-leb}
-use Rattle.plates.specs.Planes.{colorantsOnly}
-use Rattle.arith.proofs.EveryLaws.{Passed, passed-start, passed-step, passed-fails, passed-end}
+use Rattle.plates.proofs.PackLoops.{HighestAt, highest-start, highest-raised, highest-kept, highest-end}
 use Rattle.plates.proofs.packing.colorants_only.Statement.{statement}
 use Rattle.plates.proofs.packing.colorants_only.Tie as tie
 
 abbrev Inv-loop : tie.InvT-loop
-Inv-loop cells i₀ i-end i = Passed (length cells) (λ k. leb (getD cells k 0) 7) i
+Inv-loop cells highest₀ i₀ i-end highest i = HighestAt cells highest i
 
 abbrev μ-loop : tie.MeasureT-loop
-μ-loop cells i₀ i-end i = length cells - i
+μ-loop cells highest₀ i₀ i-end highest i = length cells - i
 
 loop-holds : tie.Need-loop-holds Inv-loop μ-loop
-loop-holds c = passed-start _ _
+loop-holds c = highest-start _
 
-shared-slice-read-if1 : tie.Need-shared-slice-read-if1 Inv-loop μ-loop
-shared-slice-read-if1 c = search needs
-
-returns : tie.Need-returns Inv-loop μ-loop
-unfolding colorantsOnly
-returns c =
-    let turn = c .before .before in
-    let above : 7 < getD (turn .before .before .args .cells .now) (turn .before .loop .i) 0 = omega arith in
-    passed-fails (turn .before .loop .inv) (turn .loop-test .taken) (lt-leb _ _ above)
+shared-slice-read-cell : tie.Need-shared-slice-read-cell Inv-loop μ-loop
+shared-slice-read-cell c = search needs
 
 add-i : tie.Need-add-i Inv-loop μ-loop
 add-i c = search needs
@@ -38,12 +29,12 @@ loop-less c = search needs
 loop-again : tie.Need-loop-again Inv-loop μ-loop
 loop-again c =
     let turn = c .before .before in
-    let colorant : getD (turn .before .before .args .cells .now) (turn .before .loop .i) 0 ≤ 7 = omega arith in
-    passed-step (turn .before .loop .inv) (turn .loop-test .taken) (le-leb _ _ colorant)
+    let so-far = turn .before .loop .inv in
+    let within = turn .loop-test .taken in
+    ⊎-elim (λ w. rw (w .1) (highest-raised so-far within (w .0 .taken))) (λ w. rw (w .1) (highest-kept so-far within (w .0 .left))) (c .if1 .came)
 
-returns-2 : tie.Need-returns-2 Inv-loop μ-loop
-unfolding colorantsOnly
-returns-2 c = passed-end (c .before .loop .inv) (c .loop-test .left)
+returns : tie.Need-returns Inv-loop μ-loop
+returns c = highest-end (c .before .loop .inv) (c .loop-test .left)
 
 pub colorants-only-spec : {M : Type 1} → statement M
 colorants-only-spec =
@@ -52,9 +43,8 @@ colorants-only-spec =
     Inv-loop
     μ-loop
     loop-holds
-    shared-slice-read-if1
-    returns
+    shared-slice-read-cell
     add-i
     loop-less
     loop-again
-    returns-2)
+    returns)

@@ -54,12 +54,12 @@ returns-3 c =
 
 write-planes-requires : tie.Need-write-planes-requires
 write-planes-requires c κs =
-    let long = c .before .before .before in
+    let tested = c .before in
+    let long = tested .before .before in
     let bytes = long .before .before in
     let sheet = passed (bytes .before .before .on-sheet .ensures) (bytes .before .if1 .left) in
     let size = size-kept _ _ _ _ _ _ (size-passed _ _ _ _ _ _ sheet (rw (bytes .row-bytes .ensures) at (long .before .lengths-refusal .ensures)) (long .if2 .left)) in
-    let limits = corner-kept _ _ sheet in
-    (limits .0, limits .1, size .1, size .2)
+    (record { wide = corner-kept _ _ sheet .0; long = size .1; only = passed (tested .before .colorants-only .ensures) (tested .if3 .left) }, size .2)
 
 same-length : tie.Need-same-length
 same-length c = search needs

@@ -6,7 +6,7 @@ use borrow.Author.Needs.{needs}
 use Rattle.arith.proofs.RefusalLaws.{failed, passed}
 use Rattle.arith.proofs.SheetLaws.{corner-kept}
 use Rattle.plates.proofs.PlaceLaws.{planes-few}
-use Rattle.plates.proofs.Refusals.{size-5, size-lengths, size-passed, size-kept, unpack-size, unpack-9-pixel, unpack-9-padding, unpack-0}
+use Rattle.plates.proofs.Refusals.{size-5, size-lengths, size-passed, size-kept, unpack-size, unpack-9, unpack-0}
 use Rattle.plates.proofs.unpacking.unpack.Statement.{statement}
 use Rattle.plates.proofs.unpacking.unpack.Tie as tie
 
@@ -41,14 +41,12 @@ returns-2 c =
     let sheet = passed (bytes .before .before .on-sheet .ensures) (bytes .before .if1 .left) in
     unpack-size _ _ _ _ (c .before .lengths-refusal .ensures ∙ rw (bytes .row-bytes .ensures) (size-lengths _ _ _ _ _ _ sheet)) (c .if2 .taken)
 
-pixels-once-requires : tie.Need-pixels-once-requires
-pixels-once-requires c κs =
-    let long = c in
-    let bytes = long .before .before in
+planes-sound-requires : tie.Need-planes-sound-requires
+planes-sound-requires c κs =
+    let bytes = c .before .before in
     let sheet = passed (bytes .before .before .on-sheet .ensures) (bytes .before .if1 .left) in
-    let size = size-kept _ _ _ _ _ _ (size-passed _ _ _ _ _ _ sheet (rw (bytes .row-bytes .ensures) at (long .before .lengths-refusal .ensures)) (long .if2 .left)) in
-    let limits = corner-kept _ _ sheet in
-    (limits .0, size .1)
+    let size = size-kept _ _ _ _ _ _ (size-passed _ _ _ _ _ _ sheet (rw (bytes .row-bytes .ensures) at (c .before .lengths-refusal .ensures)) (c .if2 .left)) in
+    (corner-kept _ _ sheet .0, size .1)
 
 returns-3 : tie.Need-returns-3
 returns-3 c =
@@ -56,48 +54,29 @@ returns-3 c =
     let bytes = long .before .before in
     let sheet = passed (bytes .before .before .on-sheet .ensures) (bytes .before .if1 .left) in
     let size = size-passed _ _ _ _ _ _ sheet (rw (bytes .row-bytes .ensures) at (long .before .lengths-refusal .ensures)) (long .if2 .left) in
-    unpack-9-pixel _ _ _ _ size (failed (c .before .pixels-once .ensures) (c .if3 .taken))
-
-padding-clear-requires : tie.Need-padding-clear-requires
-padding-clear-requires c κs =
-    let long = c .before .before in
-    let bytes = long .before .before in
-    let sheet = passed (bytes .before .before .on-sheet .ensures) (bytes .before .if1 .left) in
-    let size = size-kept _ _ _ _ _ _ (size-passed _ _ _ _ _ _ sheet (rw (bytes .row-bytes .ensures) at (long .before .lengths-refusal .ensures)) (long .if2 .left)) in
-    let limits = corner-kept _ _ sheet in
-    (limits .0, limits .1, size .1)
-
-returns-4 : tie.Need-returns-4
-returns-4 c =
-    let once = c .before .before in
-    let long = once .before .before in
-    let bytes = long .before .before in
-    let sheet = passed (bytes .before .before .on-sheet .ensures) (bytes .before .if1 .left) in
-    let size = size-passed _ _ _ _ _ _ sheet (rw (bytes .row-bytes .ensures) at (long .before .lengths-refusal .ensures)) (long .if2 .left) in
-    unpack-9-padding _ _ _ _ size (passed (once .before .pixels-once .ensures) (once .if3 .left)) (failed (c .before .padding-clear .ensures) (c .if4 .taken))
+    unpack-9 _ _ _ _ size (failed (c .before .planes-sound .ensures) (c .if3 .taken))
 
 write-cells-requires : tie.Need-write-cells-requires
 write-cells-requires c κs =
-    let long = c .before .before .before .before .before in
+    let tested = c .before in
+    let long = tested .before .before in
     let bytes = long .before .before in
     let sheet = passed (bytes .before .before .on-sheet .ensures) (bytes .before .if1 .left) in
     let size = size-kept _ _ _ _ _ _ (size-passed _ _ _ _ _ _ sheet (rw (bytes .row-bytes .ensures) at (long .before .lengths-refusal .ensures)) (long .if2 .left)) in
-    let limits = corner-kept _ _ sheet in
-    (limits .0, size .1, size .2)
+    (corner-kept _ _ sheet .0, size .1, size .2, passed (tested .before .planes-sound .ensures) (tested .if3 .left))
 
 same-length : tie.Need-same-length
 same-length c = search needs
 
-returns-5 : tie.Need-returns-5
-returns-5 c =
+returns-4 : tie.Need-returns-4
+returns-4 c =
     let call = c .before .before in
-    let clear = call .before .before in
-    let once = clear .before .before in
-    let long = once .before .before in
+    let tested = call .before .before in
+    let long = tested .before .before in
     let bytes = long .before .before in
     let sheet = passed (bytes .before .before .on-sheet .ensures) (bytes .before .if1 .left) in
     let size = size-passed _ _ _ _ _ _ sheet (rw (bytes .row-bytes .ensures) at (long .before .lengths-refusal .ensures)) (long .if2 .left) in
-    let whole = unpack-0 _ _ _ _ size (passed (once .before .pixels-once .ensures) (once .if3 .left)) (passed (clear .before .padding-clear .ensures) (clear .if4 .left)) in
+    let whole = unpack-0 _ _ _ _ size (passed (tested .before .planes-sound .ensures) (tested .if3 .left)) in
     (whole .0, call .write-cells .ensures ∙ whole .1)
 
 pub unpack-spec : {M : Type 1} → statement M
@@ -112,10 +91,8 @@ unpack-spec =
     mul-due
     lengths-refusal-requires
     returns-2
-    pixels-once-requires
+    planes-sound-requires
     returns-3
-    padding-clear-requires
-    returns-4
     write-cells-requires
     same-length
-    returns-5)
+    returns-4)
