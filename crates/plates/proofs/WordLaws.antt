@@ -47,7 +47,7 @@ module _ (cell : ℕ → ℕ) (pixels : ℕ) (low : (t : ℕ) → t < pixels →
     pub word-below : wordOf cell pixels < 256 ^ 8
     word-below = rw by-colorant (digits-below 256 (masksOf cell pixels) masks-fit 8)
 
-    -- BYTE p OF A WORD is the masks of the cells that are p
+    -- BYTE p OF A WORD is the masks of those cells whose colorant is p
     pub byte-of-word : (p : ℕ) → p < 8 → byteOf (wordOf cell pixels) p ≡ masksOf cell pixels p
     byte-of-word p l = rw by-colorant (digit-of 256 (masksOf cell pixels) masks-fit 8 p l)
 

@@ -1,4 +1,4 @@
--- The eight bytes at one place of the planes, one of each plane: eight neighbouring pixels, or a row's last. Both calls go from place to place.
+-- Places: a byte of each of the eight planes, which hold the same eight neighbouring pixels, or a row's last. Both calls go from place to place.
 -- Assumes nothing: these are definitions.
 use Prim.Native.Nat.{ℕ, zero, suc, _+_, _-_, _*_, _/_, _%_, _^_, _≤_, _<_}
 use mathlib.Core.Path.{_≡_}
@@ -18,7 +18,7 @@ byteAt plane planes place p = getD planes (p * plane + place) 0
 
 -- ---- packing
 
--- the first pixels of a place in one number: for each its mask, times 256 to the power of its colorant
+-- the first pixels of a place in one number: the mask of each is added to the byte that has its colorant's number
 unfoldable pub wordOf : (ℕ → ℕ) → ℕ → ℕ
 wordOf cell pixels = sumBelow pixels (λ t. mask t * 256 ^ cell t)
 

@@ -96,8 +96,8 @@ fn write_place(
     put_word(word, plane, y * bytes + b, planes);
 }
 
-// So many neighbouring cells in one number, from the first on: for each its mask, times 256 to the power
-// of its colorant. So byte p has the masks of those that are p.
+// So many neighbouring cells in one number, from the first on: the mask of each is added to the byte that
+// has its colorant's number. Each mask is added once, so that no byte runs over into the next.
 fn word_of(cells: &[u8], first: usize, pixels: usize) -> u64
     requires { ⌜ (pixels ≤ 8) × (first + pixels ≤ length (now cells)) × (colorantsOnly (now cells) ≡ true) ⌝ }
     ensures { λ r. ⌜ r ≡ wordOf (λ t. getD (now (cells .entry)) (first + t) 0) pixels ⌝ }
