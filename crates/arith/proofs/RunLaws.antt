@@ -1,4 +1,4 @@
--- Laws of `upto`.
+-- Laws of `upto`, and of parts of a list that are lent and put back.
 -- Assumes nothing.
 use mathlib.Core.Path.{_≡_, refl, sym, ap, subst, _∙_}
 use Prim.Native.Nat.{ℕ, zero, suc, _+_, _-_, _≤_, _<_}
@@ -8,7 +8,7 @@ use native.Mathlib.Decide.{decLt}
 use native.Mathlib.Omega.{arith}
 use mathlib.Core.List.{List, [], _∷_, _++_, append-nil, append-assoc}
 use lib.ListN.{length, getD, set, take, drop, length-append, length-replicate, length-take, length-drop, drop-of-length-le, List·getD-append, List·getD-eq-default}
-use lib.Seq.{set-at, getD-at, take-at, drop-at, drop-drop, drop-cons, append-snoc, take-all, getD-take, getD-drop}
+use lib.Seq.{set-at, getD-at, take-at, drop-at, drop-drop, drop-cons, append-snoc, take-all, length-take-le, getD-take, getD-drop, getD-append-add}
 use borrow.Rule.Slice.PartMut.{putMid}
 use Rattle.arith.specs.Run.{upto, zeros}
 
@@ -63,6 +63,17 @@ part-length i k l h = simp (length-take, length-drop) (omega arith)
 -- what stands in a part is what stands further on in the whole
 pub part-at : (i end : ℕ) (l : List ℕ) (j : ℕ) → j < end - i → getD (take (end - i) (drop i l)) j 0 ≡ getD l (i + j) 0
 part-at i end l j h = getD-take (end - i) (drop i l) j 0 h ∙ getD-drop i l j 0
+
+-- where a part is put back, what stands before it is as it was, and what stands in it is the part
+module _ (i k : ℕ) (l part : List ℕ) (h : i ≤ length l) where
+  pub put-before : (j : ℕ) → j < i → getD (putMid i k l part) j 0 ≡ getD l j 0
+  put-before j b = List·getD-append (take i l) _ 0 j (omega (arith, length-take-le i l h)) ∙ getD-take i l j 0 b
+
+  pub put-within : (j : ℕ) → j < length part → getD (putMid i k l part) (i + j) 0 ≡ getD part j 0
+  put-within j b =
+      ap (λ (n : ℕ). getD (putMid i k l part) (n + j) 0) (sym (length-take-le i l h))
+      ∙ getD-append-add (take i l) (part ++ drop k (drop i l)) j 0
+      ∙ List·getD-append part (drop k (drop i l)) 0 j b
 
 -- the part from a place to the end is all that comes after it
 pub part-to-end : (l : List ℕ) (i : ℕ) → take (length l - i) (drop i l) ≡ drop i l

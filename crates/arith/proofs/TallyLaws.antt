@@ -1,25 +1,37 @@
--- Laws of `tally`: of a list joined of two, of a list given by places, and of a table of tallies that a loop keeps.
+-- Laws of counting the numbers that pass a test, and of `tally`: of a list joined of two, of a list given by places, and of a table of tallies that a loop keeps.
 -- Assumes nothing.
 use Prim.Native.Nat.{ℕ, zero, suc, _+_, _≤_, _<_}
 use mathlib.Core.Path.{_≡_, refl, sym, ap, _∙_}
 use mathlib.Core.Bool.{Bool, true, false}
 use mathlib.Core.List.{List, [], _∷_, _++_}
-use native.Mathlib.Nat.{le-of-eq, mul-zero}
+use native.Mathlib.Nat.{le-of-eq, mul-zero, mul-one}
 use native.Mathlib.Decide.{ℕ-discrete, decLt}
 use native.Mathlib.Omega.{arith}
 use lib.ListN.{length, getD, set, length-set}
 use lib.Seq.{getD-set-same, getD-set-other, ext-getD}
 use lib.Dec.{eqb}
-use borrow.Author.Tests.{eq-eqb, ne-eqb}
+use borrow.Author.Tests.{eqb-true, eq-eqb, ne-eqb}
+use Rattle.arith.specs.Every.{every}
 use Rattle.arith.specs.Sum.{sumBelow, indicator}
 use Rattle.arith.specs.Run.{upto}
 use Rattle.arith.specs.Tally.{tally}
 use Rattle.arith.proofs.RunLaws.{upto-length, upto-at, upto-same}
-use Rattle.arith.proofs.SumLaws.{indicator-none, sum-constant, sum-met, sum-plus}
+use Rattle.arith.proofs.EveryLaws.{every-is}
+use Rattle.arith.proofs.SumLaws.{indicator-none, sum-constant, sum-met, sum-plus, sum-full}
 
 pub indicator-le : (t : Bool) → indicator t ≤ 1
 indicator-le true = omega arith
 indicator-le false = omega arith
+
+-- AS MANY NUMBERS PASS AS THERE ARE exactly where each does
+pub every-counted : (n : ℕ) (passes : ℕ → Bool) → eqb (sumBelow n (λ i. indicator (passes i))) n ≡ every n passes
+every-counted n passes =
+    every-is n passes _ (λ e i l. passed (passes i) (sum-full n _ (λ k m. indicator-le (passes k)) (eqb-true _ _ e) i l))
+    (λ h. eq-eqb _ _ (sum-constant n 1 _ (λ i l. ap indicator (h i l)) ∙ mul-one n))
+  where
+    passed : (t : Bool) → indicator t ≡ 1 → t ≡ true
+    passed true e = refl
+    passed false e = absurd (omega arith)
 
 pub tally-append : (v : ℕ) (l m : List ℕ) → tally v (l ++ m) ≡ tally v l + tally v m
 unfolding tally

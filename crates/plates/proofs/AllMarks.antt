@@ -37,6 +37,7 @@ marks =
       place-once = refl;
       place-padded = refl;
       place-white = refl;
+      place-none = refl;
       full-masks = refl;
       mask-law = λ law. law 11;
       bit-law = λ law. law 2 2 cells 1 0 2 (omega arith) (omega arith) (omega arith);

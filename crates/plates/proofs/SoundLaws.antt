@@ -1,4 +1,4 @@
--- The test place by place: it passes exactly where each pixel is in one plane and the padding is clear.
+-- The test place by place: it passes exactly where each pixel is in one plane and the padding is clear; and what follows for planes that may be unpacked.
 -- Assumes nothing.
 use Prim.Native.Nat.{ℕ, _+_, _-_, _*_, _/_, _%_, _<_}
 use mathlib.Core.Path.{_≡_, refl, sym, ap, _∙_}
@@ -15,11 +15,12 @@ use Rattle.arith.specs.Sum.{indicator}
 use Rattle.arith.proofs.EveryLaws.{every-passes, every-made, every-is}
 use Rattle.arith.proofs.RefusalLaws.{both-pass}
 use Rattle.arith.proofs.SumLaws.{sum-same, sum-constant, sum-term}
-use Rattle.plates.specs.Masks.{bit}
+use Rattle.arith.proofs.TallyLaws.{indicator-le}
+use Rattle.plates.specs.Masks.{mask, bit}
 use Rattle.plates.specs.Planes.{rowBytes, bitAt, planesWith, pixelsOnce, paddingClear}
-use Rattle.plates.specs.Places.{byteAt, planesAt, onceAt, rowOnce}
+use Rattle.plates.specs.Places.{byteAt, planesAt, onceAt, rowOnce, Unpackable, Apart}
 use Rattle.plates.proofs.MaskLaws.{mask-repeats}
-use Rattle.plates.proofs.PlaceLaws.{plane-of, row-in-plane}
+use Rattle.plates.proofs.PlaceLaws.{place-row, place-column, plane-of, row-in-plane}
 
 -- the bit of pixel t of place b of a row is that of pixel 8 * b + t of the row,
 pub bit-at-place : (bytes rows : ℕ) (planes : List ℕ) (p y b t : ℕ) → t < 8
@@ -103,7 +104,23 @@ module _ (columns rows : ℕ) (planes : List ℕ) where
       (every-is rows _ _ (λ e. let both = both-pass _ _ e in due-places (tests-due (both .0) (both .1)))
       (λ h. let due = places-due h in rw (due-pixels due, due-padding due) refl))
 
-  -- so where both pass, each row does
-  pub row-passes : pixelsOnce columns rows planes && paddingClear columns rows planes ≡ true → (y : ℕ) → y < rows
-      → rowOnce columns (rows * rowBytes columns) planes (y * rowBytes columns) ≡ true
-  row-passes sound y l = every-passes rows _ (sound-is ∙ sound) y l
+  -- So in planes that may be unpacked, each pixel of the columns is in one plane,
+  module _ (given : Unpackable columns rows planes) where
+    due : Due
+    due = let both = both-pass _ _ (given .sound) in tests-due (both .0) (both .1)
+
+    pub pixel-once : (y x : ℕ) → y < rows → x < columns → planesWith (rowBytes columns) rows planes y x ≡ 1
+    pixel-once y x k l = due y x k (omega arith) ∙ ap indicator (lt-ltb x columns l)
+
+    -- and no bit, padding included, is in two planes
+    pub planes-apart : Apart (rows * rowBytes columns) planes
+    unfolding planesAt
+    planes-apart place t l =
+        let bytes : ℕ = rowBytes columns in
+        let inside : place < bytes * rows = omega arith in
+        let here : place / bytes * bytes + place % bytes ≡ place = div-add-mod' place bytes in
+        let column = due (place / bytes) (8 * (place % bytes) + t % 8) (place-row bytes rows place inside) (omega (arith, place-column bytes rows place inside)) in
+        let at-place = planes-at-place bytes rows planes (place / bytes) (place % bytes) (t % 8) (omega arith) in
+        let whole : t ≡ 8 * (t / 8) + t % 8 = omega arith in
+        let again = ap mask whole ∙ mask-repeats (t / 8) (t % 8) in
+        rw (again, ← here) (omega (arith, at-place, column, indicator-le (ltb (8 * (place % bytes) + t % 8) columns)))

@@ -1,27 +1,31 @@
--- The loops of unpacking, over plain numbers and lists: the eight bytes of a place are added up and joined, a row's places are tested one after the other, and cells are written place by place and row by row.
+-- The loops of unpacking, over plain numbers and lists: the eight bytes of a place are added up and joined, the places of a row that pass are counted, and cells are written place by place and row by row.
 -- Assumes nothing.
 use Prim.Native.Nat.{ℕ, suc, _+_, _-_, _*_, _/_, _%_, _≤_, _<_}
-use mathlib.Core.Path.{_≡_, refl, sym, ap, ap₂, _∙_}
-use mathlib.Core.Bool.{Bool, true, _&&_}
+use mathlib.Core.Path.{_≡_, refl, sym, ap, _∙_}
+use mathlib.Core.Bool.{Bool, true, false, _&&_, and-false}
 use mathlib.Core.List.{List}
-use mathlib.Core.Logic.{_⊎_, inl, inr}
-use native.Mathlib.Nat.{mul-le-mul}
+use native.Mathlib.Nat.{add-zero}
 use native.Mathlib.Numerals.{add-one}
+use native.Mathlib.Decide.{decLt}
 use native.Mathlib.Omega.{arith}
 use lib.Arith.{digits-div, digits-mod}
 use lib.Bits.{bitOr}
 use lib.Dec.{eqb}
-use lib.ListN.{length, take, drop}
-use borrow.Author.Tests.{lt-ltb}
-use borrow.Rule.Slice.PartMut.{putMid}
+use lib.ListN.{length, getD, take, drop}
+use lib.Seq.{ext-getD}
+use borrow.Author.Tests.{eqb-true, ne-eqb, lt-ltb, le-ltb}
+use borrow.Rule.Slice.PartMut.{putMid, same-len-mid}
 use Rattle.arith.specs.Every.{every}
 use Rattle.arith.specs.Run.{upto}
-use Rattle.arith.specs.Sum.{sumBelow}
-use Rattle.arith.proofs.EveryLaws.{every-same, every-passes}
-use Rattle.arith.proofs.RunLaws.{Filling, filling-start, filling-length, filling-part, filling-whole, part-length, upto-same}
+use Rattle.arith.specs.Sum.{sumBelow, indicator}
+use Rattle.arith.proofs.EveryLaws.{every-same, every-passes, every-fails}
+use Rattle.arith.proofs.RunLaws.{Filling, filling-length, filling-part, part-length, upto-length, upto-at, upto-same, put-before, put-within}
+use Rattle.arith.proofs.SumLaws.{sum-next, sum-bounded}
+use Rattle.arith.proofs.TallyLaws.{indicator-le, every-counted}
 use Rattle.plates.specs.Planes.{rowBytes, cellsLength, colorantOf, cellsOf}
-use Rattle.plates.specs.Places.{byteAt, planesAt, onceAt, rowOnce, fullMask, colorantAt, rowOf}
+use Rattle.plates.specs.Places.{byteAt, planesAt, onceAt, rowOnce, fullMask, Unpackable, Roomy, WrittenTo, colorantAt, rowOf}
 use Rattle.plates.proofs.PlaceLaws.{row-ends}
+use Rattle.plates.proofs.SoundLaws.{pixel-once}
 use Rattle.plates.proofs.UnionLaws.{unionBelow, once-by-sums}
 use Rattle.plates.proofs.ColorantLaws.{colorant-at-place}
 
@@ -63,49 +67,65 @@ once-full : (plane : ℕ) (planes : List ℕ) (place pixels : ℕ) → 8 ≤ pix
 unfolding onceAt
 once-full plane planes place pixels h = every-same 8 _ _ (λ t l. rw (lt-ltb t 8 l, lt-ltb t pixels (omega arith)) refl)
 
--- all of the first b places pass, or not all
-pub record SoundAt (columns plane : ℕ) (planes : List ℕ) (start : ℕ) (sound : Bool) (b : ℕ) : Type 0 where
-  pub within : b ≤ columns / 8
-  pub tells : sound ≡ every b (λ k. onceAt plane planes (start + k) (columns - 8 * k))
+-- and one that passes for fewer than eight does not pass for eight
+once-fewer : (plane : ℕ) (planes : List ℕ) (place pixels : ℕ) → pixels < 8 → onceAt plane planes place pixels ≡ true → onceAt plane planes place 8 ≡ false
+unfolding onceAt
+once-fewer plane planes place pixels few e =
+    let none : planesAt plane planes place pixels ≡ 0 = eqb-true _ _ (every-passes 8 _ e pixels few) ∙ ap indicator (le-ltb pixels pixels (omega arith)) in
+    every-fails 8 _ pixels few (rw (lt-ltb pixels 8 few) (ne-eqb (planesAt plane planes place pixels) 1 (λ one. omega arith)))
 
-pub sound-start : (columns plane : ℕ) (planes : List ℕ) (start : ℕ) → SoundAt columns plane planes start true 0
-unfolding every
-sound-start columns plane planes start = record { within = omega arith; tells = refl }
+-- so many of the first b places pass for eight pixels
+pub record FullAt (columns plane : ℕ) (planes : List ℕ) (start passed b : ℕ) : Type 0 where
+  pub within : b ≤ rowBytes columns
+  pub tells : passed ≡ sumBelow b (λ k. indicator (onceAt plane planes (start + k) 8))
 
-module _ {columns plane : ℕ} {planes : List ℕ} {start : ℕ} {sound : Bool} {b : ℕ} (s : SoundAt columns plane planes start sound b) where
-  pub sound-next : b < columns / 8 → {r : Bool} → r ≡ onceAt plane planes (start + b) 8 → SoundAt columns plane planes start (sound && r) (b + 1)
-  unfolding every
-  sound-next l e =
-      record { within = omega arith; tells = rw (add-one b, s .tells, e, once-full plane planes (start + b) (columns - 8 * b) (omega arith)) }
+pub full-start : (columns plane : ℕ) (planes : List ℕ) (start : ℕ) → FullAt columns plane planes start 0 0
+unfolding sumBelow
+full-start columns plane planes start = record { within = omega arith; tells = refl }
 
-  module _ (h : columns / 8 ≤ b) where
-    -- the row ends there, or with one place more
-    pub sound-end : columns % 8 ≡ 0 → sound ≡ rowOnce columns plane planes start
+module _ {columns plane : ℕ} {planes : List ℕ} {start passed b : ℕ} (s : FullAt columns plane planes start passed b) where
+  pub full-few : passed ≤ b
+  full-few = rw (s .tells) (sum-bounded b _ (λ k l. indicator-le (onceAt plane planes (start + k) 8)))
+
+  -- the next place passes, or it does not
+  module _ (l : b < rowBytes columns) where
+    pub full-more : onceAt plane planes (start + b) 8 ≡ true → FullAt columns plane planes start (passed + 1) (b + 1)
+    full-more e = record { within = omega arith; tells = rw (s .tells, sum-next b, e) }
+
+    pub full-kept : onceAt plane planes (start + b) 8 ≡ false → FullAt columns plane planes start passed (b + 1)
+    full-kept e = record { within = omega arith; tells = rw (s .tells, sum-next b, e, add-zero) }
+
+  module _ (h : rowBytes columns ≤ b) where
+    -- each place of eight pixels passes exactly where as many of them pass as there are,
+    eights : every (columns / 8) (λ k. onceAt plane planes (start + k) (columns - 8 * k))
+        ≡ eqb (sumBelow (columns / 8) (λ k. indicator (onceAt plane planes (start + k) 8))) (columns / 8)
+    eights =
+        every-same (columns / 8) _ _ (λ k l. sym (once-full plane planes (start + k) (columns - 8 * k) (omega arith)))
+        ∙ sym (every-counted (columns / 8) (λ k. onceAt plane planes (start + k) 8))
+
+    -- and there the row ends, or with one place more
+    pub full-end : columns % 8 ≡ 0 → eqb passed (columns / 8) ≡ rowOnce columns plane planes start
     unfolding rowOnce
-    sound-end e =
-        let q : b ≡ rowBytes columns = omega (arith, s .within) in
-        s .tells ∙ ap (λ (n : ℕ). every n (λ k. onceAt plane planes (start + k) (columns - 8 * k))) q
+    full-end e =
+        let all : b ≡ columns / 8 = omega (arith, s .within) in
+        let bytes : rowBytes columns ≡ columns / 8 = omega arith in
+        rw (s .tells, bytes, all) (sym eights)
 
-    pub sound-last : (columns % 8 ≡ 0 → ⊥) → {r : Bool} → r ≡ onceAt plane planes (start + columns / 8) (columns % 8)
-        → sound && r ≡ rowOnce columns plane planes start
-    unfolding every rowOnce
-    sound-last some e =
-        let here : columns / 8 ≡ b = omega (arith, s .within) in
-        let left : columns % 8 ≡ columns - 8 * b = omega arith in
-        let next : rowBytes columns ≡ suc b = omega arith in
-        rw (next, s .tells, e, here, left)
+    pub full-last : (columns % 8 ≡ 0 → ⊥) → {r : Bool} → r ≡ onceAt plane planes (start + columns / 8) (columns % 8)
+        → eqb passed (columns / 8) && r ≡ rowOnce columns plane planes start
+    unfolding sumBelow every rowOnce
+    full-last some {r} e =
+        let next : rowBytes columns ≡ suc (columns / 8) = omega arith in
+        let all : b ≡ suc (columns / 8) = omega (arith, s .within) in
+        let left : columns - 8 * (columns / 8) ≡ columns % 8 = omega arith in
+        rw (s .tells, next, all, left, ← e, eights)
+        (go _ _ r (λ q. ap indicator (once-fewer plane planes (start + columns / 8) (columns % 8) (omega arith) (sym e ∙ q))))
+      where
+        go : (count more : ℕ) (r : Bool) → (r ≡ true → more ≡ 0) → eqb (count + more) (columns / 8) && r ≡ eqb count (columns / 8) && r
+        go count more true none = rw (none refl, add-zero count) refl
+        go count more false none = and-false (eqb (count + more) (columns / 8)) ∙ sym (and-false (eqb count (columns / 8)))
 
 -- ---- the pixels of a row
-
--- a place of a row that passes has each of its pixels in one plane
-pub once-part : (n plane : ℕ) (planes : List ℕ) (start b pixels : ℕ) → rowOnce n plane planes start ≡ true
-    → (8 * b + pixels ≤ n) × (0 < pixels) → (pixels ≡ 8) ⊎ (8 * b + pixels ≡ n) → onceAt plane planes (start + b) pixels ≡ true
-unfolding rowOnce
-once-part n plane planes start b pixels all h (inl e) =
-    rw e (once-full plane planes (start + b) (n - 8 * b) (omega arith) ∙ every-passes (rowBytes n) _ all b (omega arith))
-once-part n plane planes start b pixels all h (inr e) =
-    let left : pixels ≡ n - 8 * b = omega arith in
-    rw left (every-passes (rowBytes n) _ all b (omega arith))
 
 -- the pixels of a place are lent and come back written
 pub row-part : (plane : ℕ) (planes : List ℕ) (start b : ℕ) {out₀ out : List ℕ} → Filling (rowOf plane planes start) out₀ out (8 * b)
@@ -124,44 +144,64 @@ row-part plane planes start b {out₀} {out} s pixels part few room e =
 
 -- ---- the rows
 
--- the cells of the first rows are written
-pub record CellsAt (columns rows : ℕ) (planes cells₀ cells : List ℕ) (first y : ℕ) : Type 0 where
-  pub within : y ≤ rows
-  pub here : first ≡ y * columns
-  pub filling : Filling (λ i. colorantOf (rowBytes columns) rows planes (i / columns) (i % columns)) cells₀ cells first
+module _ (columns rows : ℕ) where
+  -- all rows but the last have room for eight pixels at their last place, where two rows have it,
+  pub roomy-most : {roomy : ℕ} → 8 * rowBytes columns ≤ 2 * columns → roomy ≡ rows - 1 → Roomy columns rows roomy (8 * rowBytes columns)
+  roomy-most wide e =
+      record { within = omega arith; least = omega arith; most = omega arith; room = λ y l. omega (arith, row-ends rows columns (y + 1) (omega arith)) }
 
-pub cells-start : (columns rows : ℕ) (planes cells : List ℕ) → CellsAt columns rows planes cells cells 0 0
-cells-start columns rows planes cells = record { within = omega arith; here = omega arith; filling = filling-start _ cells }
+  pub roomy-none : {roomy : ℕ} → roomy ≡ 0 → Roomy columns rows roomy (8 * rowBytes columns)
+  roomy-none e = record { within = omega arith; least = omega arith; most = omega arith; room = λ y l. absurd (omega arith) }
 
-module _ {columns rows : ℕ} {planes cells₀ cells : List ℕ} {first y : ℕ} (s : CellsAt columns rows planes cells₀ cells first y) where
-  pub cells-size : length cells ≡ length cells₀
-  cells-size = filling-length (s .filling)
+  -- and each has room for its columns
+  pub roomy-own : Roomy columns rows rows columns
+  roomy-own = record { within = omega arith; least = omega arith; most = omega arith; room = λ y l. omega (arith, row-ends rows columns y l) }
 
-  pub cells-fits : length cells₀ ≡ cellsLength columns rows → y < rows → first + columns ≤ length cells
-  cells-fits size l = rw (cells-size, size, s .here) (omega (arith, row-ends rows columns y l))
+module _ {columns rows : ℕ} {planes : List ℕ} where
+  pub written-start : (cells : List ℕ) → length cells ≡ cellsLength columns rows → WrittenTo columns rows planes cells 0
+  written-start cells size = record { size = size; there = λ i l. absurd (omega arith) }
 
-  pub cells-part : length cells₀ ≡ cellsLength columns rows → y < rows → length (take (first + columns - first) (drop first cells)) ≡ columns
-  cells-part size l = part-length first columns cells (cells-fits size l)
+  module _ {cells : List ℕ} {n : ℕ} (s : WrittenTo columns rows planes cells n) where
+    pub written-fewer : (m : ℕ) → m ≤ n → WrittenTo columns rows planes cells m
+    written-fewer m h = record { size = s .size; there = λ i l. s .there i (omega arith) }
 
-  pub cells-step : (part : List ℕ) → length cells₀ ≡ cellsLength columns rows → y < rows
-      → part ≡ upto (rowOf (rows * rowBytes columns) planes (y * rowBytes columns)) (length (take (first + columns - first) (drop first cells)))
-      → CellsAt columns rows planes cells₀ (putMid first (first + columns - first) cells part) (first + columns) (y + 1)
-  cells-step part size l e =
+    pub written-end : cellsLength columns rows ≤ n → cells ≡ cellsOf columns rows planes
+    unfolding cellsOf
+    written-end h =
+        ext-getD 0 cells (upto _ (cellsLength columns rows)) (s .size ∙ sym (upto-length _ (cellsLength columns rows)))
+        (λ i l.
+        let within : i < cellsLength columns rows = omega (arith, s .size) in
+        s .there i (omega arith) ∙ sym (upto-at _ (cellsLength columns rows) i within))
+
+    -- so many pixels of the next row are lent
+    pub written-part : {to pixels : ℕ} → Roomy columns rows to pixels → (y : ℕ) → y < to
+        → length (take (y * columns + pixels - y * columns) (drop (y * columns) cells)) ≡ pixels
+    written-part {to} {pixels} roomy y l = part-length (y * columns) pixels cells (omega (arith, roomy .room y l, s .size))
+
+  -- ONE ROW MORE: so many of its pixels are lent and come back written, of which its columns are the first
+  pub written-row : (given : Unpackable columns rows planes) {to pixels : ℕ} → Roomy columns rows to pixels → (y : ℕ) (cells part : List ℕ) → y < to
+      → part ≡ upto (rowOf (rows * rowBytes columns) planes (y * rowBytes columns)) pixels → WrittenTo columns rows planes cells (y * columns)
+      → WrittenTo columns rows planes (putMid (y * columns) (y * columns + pixels - y * columns) cells part) (y * columns + columns)
+  written-row given {to} {pixels} roomy y cells part row e s =
       record {
-        within = omega arith;
-        here = omega (arith, s .here);
-        filling =
-            filling-part (s .filling) columns part (rw (← cells-size) (cells-fits size l))
-            (e
-            ∙ rw (cells-part size l)
-            (upto-same _ _ columns
-            (λ x k.
-            colorant-at-place columns rows planes y x
-            ∙ ap₂ (colorantOf (rowBytes columns) rows planes) (sym (rw (s .here) (digits-div y k))) (sym (rw (s .here) (digits-mod y k))))));
+        size = same-len-mid (y * columns) (y * columns + pixels - y * columns) cells part (long ∙ sym (written-part s roomy y row)) ∙ s .size;
+        there = λ i l. go i l (decLt i (y * columns));
       }
+    where
+      long : length part ≡ pixels
+      long = rw e (upto-length _ pixels)
 
-  pub cells-end : length cells₀ ≡ cellsLength columns rows → rows ≤ y → cells ≡ cellsOf columns rows planes
-  unfolding cellsOf
-  cells-end size h =
-      filling-whole (s .filling) (cellsLength columns rows) size
-      (omega (arith, s .here, mul-le-mul {n₁ = rows} {m₁ = columns} {n₂ = y} {m₂ = columns} h (omega arith)))
+      room : y * columns + pixels ≤ length cells
+      room = omega (arith, roomy .room y row, s .size)
+
+      go : (i : ℕ) → i < y * columns + columns → Dec (i < y * columns)
+          → getD (putMid (y * columns) (y * columns + pixels - y * columns) cells part) i 0 ≡ colorantOf (rowBytes columns) rows planes (i / columns) (i % columns)
+      go i l (yes b) = put-before (y * columns) (y * columns + pixels - y * columns) cells part (omega (arith, room)) i b ∙ s .there i b
+      go i l (no b) =
+          let x : ℕ = i - y * columns in
+          let within : x < columns = omega arith in
+          let here : i ≡ y * columns + x = omega arith in
+          rw (here, digits-div y within, digits-mod y within)
+          (put-within (y * columns) (y * columns + pixels - y * columns) cells part (omega (arith, room)) x (omega (arith, long, roomy .least))
+          ∙ rw e (upto-at _ pixels x (omega (arith, roomy .least)))
+          ∙ colorant-at-place columns rows planes y x (pixel-once columns rows planes given y x (omega (arith, roomy .within)) within))

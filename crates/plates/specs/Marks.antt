@@ -60,6 +60,7 @@ pub record Marks : Type 0 where
   pub place-once : onceAt 2 planes 1 2 ≡ true
   pub place-padded : onceAt 1 padded 0 1 ≡ false
   pub place-white : colorantAt 2 planes 1 1 ≡ 7
+  pub place-none : colorantAt 2 planes 1 2 ≡ 0
   -- the masks of no pixel, of the first, of the first two and so on
   pub full-masks : upto fullMask 9 ≡ 0 ∷ 128 ∷ 192 ∷ 224 ∷ 240 ∷ 248 ∷ 252 ∷ 254 ∷ 255 ∷ []
   -- what the laws say of the mask of column 11, of a bit of magenta's padding and of magenta's tally

@@ -1,16 +1,15 @@
--- Places: a byte of each of the eight planes, which hold the same eight neighbouring pixels, or a row's last. Both calls go from place to place.
+-- Rules 8.1 to 8.6, place by place. A place: a byte of each of the eight planes, which hold the same eight neighbouring pixels, or a row's last. Both calls go from place to place.
 -- Assumes nothing: these are definitions.
 use Prim.Native.Nat.{ℕ, zero, suc, _+_, _-_, _*_, _/_, _%_, _^_, _≤_, _<_}
 use mathlib.Core.Path.{_≡_}
-use mathlib.Core.Bool.{Bool, true}
+use mathlib.Core.Bool.{Bool, true, _&&_}
 use mathlib.Core.List.{List}
 use lib.Dec.{ltb, eqb}
 use lib.ListN.{length, getD, set}
 use Rattle.arith.specs.Every.{every}
-use Rattle.arith.specs.First.{firstBelow}
 use Rattle.arith.specs.Sum.{sumBelow, indicator}
 use Rattle.plates.specs.Masks.{mask, bit}
-use Rattle.plates.specs.Planes.{rowBytes, planesLength, cellsLength, planesByte, colorantsOnly}
+use Rattle.plates.specs.Planes.{rowBytes, planesLength, cellsLength, planesByte, colorantsOnly, colorantOf, pixelsOnce, paddingClear}
 
 -- the byte of plane p at a place, each plane having so many bytes
 abbrev pub byteAt : ℕ → List ℕ → ℕ → ℕ → ℕ
@@ -60,11 +59,33 @@ rowOnce columns plane planes start = every (rowBytes columns) (λ b. onceAt plan
 unfoldable pub fullMask : ℕ → ℕ
 fullMask pixels = sumBelow pixels mask
 
--- the first plane that pixel t of a place is in; 8 where it is in none
-unfoldable pub colorantAt : ℕ → List ℕ → ℕ → ℕ → ℕ
-colorantAt plane planes place t = firstBelow 8 (λ p. eqb (bit (byteAt plane planes place p) t) 1)
+-- what may be unpacked
+pub record Unpackable (columns rows : ℕ) (planes : List ℕ) : Type 0 where
+  pub wide : columns ≤ 65536
+  pub long : length planes ≡ planesLength columns rows
+  pub sound : pixelsOnce columns rows planes && paddingClear columns rows planes ≡ true
 
--- the colorants of a row's pixels
+-- so many pixels of each row before row `to` have room in the cells: its columns at least, and at most eight at its last place
+pub record Roomy (columns rows to pixels : ℕ) : Type 0 where
+  pub within : to ≤ rows
+  pub least : columns ≤ pixels
+  pub most : pixels ≤ 8 * rowBytes columns
+  pub room : (y : ℕ) → y < to → y * columns + pixels ≤ cellsLength columns rows
+
+-- the first n cells are written; of the others nothing is said
+pub record WrittenTo (columns rows : ℕ) (planes cells : List ℕ) (n : ℕ) : Type 0 where
+  pub size : length cells ≡ cellsLength columns rows
+  pub there : (i : ℕ) → i < n → getD cells i 0 ≡ colorantOf (rowBytes columns) rows planes (i / columns) (i % columns)
+
+-- no pixel, and no bit of padding, is in two planes
+abbrev pub Apart : ℕ → List ℕ → Type 0
+Apart plane planes = (place t : ℕ) → place < plane → planesAt plane planes place t ≤ 1
+
+-- the numbers of the planes that pixel t of a place is in, added up: its colorant where it is in one plane, and 0 where it is in none
+unfoldable pub colorantAt : ℕ → List ℕ → ℕ → ℕ → ℕ
+colorantAt plane planes place t = sumBelow 8 (λ p. p * bit (byteAt plane planes place p) t)
+
+-- the colorants of a row's pixels; 0 for padding
 abbrev pub rowOf : ℕ → List ℕ → ℕ → ℕ → ℕ
 rowOf plane planes start x = colorantAt plane planes (start + x / 8) (x % 8)
 

@@ -1,11 +1,11 @@
 // Unpacking: from planes to cells.
 ghost use mathlib.Core.Path.{_≡_};
-ghost use mathlib.Core.Bool.{true, _&&_};
+ghost use mathlib.Core.Bool.{_&&_};
 ghost use Prim.Native.Nat.{_+_, _*_, _≤_, _<_};
 ghost use lib.ListN.{length};
 ghost use Rattle.arith.specs.Run.{upto};
 ghost use Rattle.plates.specs.Planes.{rowBytes, planesLength, cellsLength, cellsOf, pixelsOnce, paddingClear};
-ghost use Rattle.plates.specs.Places.{byteAt, onceAt, rowOnce, fullMask, colorantAt, rowOf, sumAt};
+ghost use Rattle.plates.specs.Places.{byteAt, onceAt, rowOnce, fullMask, Unpackable, Roomy, WrittenTo, Apart, colorantAt, rowOf, sumAt};
 ghost use Rattle.plates.specs.Refusals.{unpackRefusal, unpacked};
 use crate::lengths_refusal;
 use crate::mask_of;
@@ -51,17 +51,22 @@ fn planes_sound(columns: usize, rows: usize, planes: &[u8]) -> bool
     true
 }
 
-// The same of the row that begins at a place of the planes. All places of eight pixels are tested without
-// an early end, so that the compiler tests many at once.
+// The same of the row that begins at a place of the planes. All its places are tested for eight pixels
+// without an early end, so that the compiler tests many at once: as many must pass as the columns have
+// eights. A last place of fewer pixels is tested by itself; if it is as it should be, it is not among those
+// that passed.
 fn row_sound(columns: usize, plane: usize, planes: &[u8], start: usize) -> bool
-    requires { ⌜ (start + rowBytes columns ≤ plane) × (length (now planes) ≡ 8 * plane) ⌝ }
+    requires { ⌜ (columns ≤ 65536) × (start + rowBytes columns ≤ plane) × (length (now planes) ≡ 8 * plane) ⌝ }
     ensures { λ r. ⌜ r ≡ rowOnce columns plane (now (planes .entry)) start ⌝ }
 {
-    let full = columns / 8;
-    let mut sound = true;
-    for b in 0..full {
-        sound = sound & once_at(plane, planes, start + b, 8);
+    let mut passed = 0u16;
+    for b in 0..row_bytes(columns) {
+        if once_at(plane, planes, start + b, 8) {
+            passed += 1;
+        }
     }
+    let full = columns / 8;
+    let sound = passed as usize == full;
     let pixels = columns % 8;
     if pixels == 0 {
         return sound;
@@ -103,34 +108,61 @@ fn full_mask(pixels: usize) -> u16
     256 - (256 >> pixels)
 }
 
-// Writes the colorants of all pixels row by row.
+// Writes the colorants of all pixels. Where rows have eight columns or more, each but the last is written with
+// eight pixels at its last place too, so that it has places of eight pixels only; the next row, which has
+// room for the surplus, is then written over it. For a single place this does not pay.
 fn write_cells(columns: usize, rows: usize, planes: &[u8], cells: &mut [u8])
-    requires { ⌜ (columns ≤ 65536) × (length (now planes) ≡ planesLength columns rows) × (length (now cells) ≡ cellsLength columns rows) × (pixelsOnce columns rows (now planes) && paddingClear columns rows (now planes) ≡ true) ⌝ }
+    requires { ⌜ Unpackable columns rows (now planes) × (length (now cells) ≡ cellsLength columns rows) ⌝ }
     ensures { λ _. ⌜ now (cells .exit) ≡ cellsOf columns rows (now (planes .entry)) ⌝ }
+{
+    if rows == 0 {
+        return;
+    }
+    let mut roomy = 0;
+    if columns >= 8 {
+        roomy = rows - 1;
+    }
+    let whole = 8 * row_bytes(columns);
+    write_rows(columns, rows, planes, 0, roomy, whole, cells);
+    write_rows(columns, rows, planes, roomy, rows, columns, cells);
+}
+
+// Writes the rows from one up to another, those before them being written, and so many pixels of each: its
+// columns, or eight at its last place too.
+fn write_rows(
+    columns: usize,
+    rows: usize,
+    planes: &[u8],
+    from: usize,
+    to: usize,
+    pixels: usize,
+    cells: &mut [u8],
+)
+    requires { ⌜ Unpackable columns rows (now planes) × Roomy columns rows to pixels × WrittenTo columns rows (now planes) (now cells) (from * columns) ⌝ }
+    ensures { λ _. ⌜ WrittenTo columns rows (now (planes .entry)) (now (cells .exit)) (to * columns) ⌝ }
 {
     let bytes = row_bytes(columns);
     let plane = rows * bytes;
-    let mut first = 0;
-    for y in 0..rows {
-        let next = first + columns;
+    for y in from..to {
+        let first = y * columns;
+        let next = first + pixels;
         write_row(plane, planes, y * bytes, &mut cells[first..next]);
-        first = next;
     }
 }
 
-// Writes the colorants of the row that begins at a place of the planes.
+// Writes the colorants of the pixels from a place of the planes on, one for each cell that is lent.
 fn write_row(plane: usize, planes: &[u8], start: usize, out: &mut [u8])
-    requires { ⌜ (start + rowBytes (length (now out)) ≤ plane) × (length (now planes) ≡ 8 * plane) × (rowOnce (length (now out)) plane (now planes) start ≡ true) ⌝ }
+    requires { ⌜ (start + rowBytes (length (now out)) ≤ plane) × (length (now planes) ≡ 8 * plane) × Apart plane (now planes) ⌝ }
     ensures { λ _. ⌜ now (out .exit) ≡ upto (rowOf plane (now (planes .entry)) start) (length (now (out .entry))) ⌝ }
 {
-    let columns = out.len();
-    let full = columns / 8;
+    let count = out.len();
+    let full = count / 8;
     for b in 0..full {
         let first = 8 * b;
         let next = first + 8;
         write_pixels(plane, planes, start + b, &mut out[first..next]);
     }
-    let pixels = columns % 8;
+    let pixels = count % 8;
     if pixels != 0 {
         let first = 8 * full;
         let next = first + pixels;
@@ -138,11 +170,11 @@ fn write_row(plane: usize, planes: &[u8], start: usize, out: &mut [u8])
     }
 }
 
-// Writes the colorants of a place's first pixels. Since each is in one plane, the bytes of several planes
+// Writes the colorants of a place's first pixels. Since none is in two planes, the bytes of several planes
 // add up to their union; and a colorant has the bit 1, 2 or 4 where its pixel is in one of the planes
 // whose numbers have that bit.
 fn write_pixels(plane: usize, planes: &[u8], place: usize, out: &mut [u8])
-    requires { ⌜ (place < plane) × (length (now planes) ≡ 8 * plane) × (length (now out) ≤ 8) × (onceAt plane (now planes) place (length (now out)) ≡ true) ⌝ }
+    requires { ⌜ (place < plane) × (length (now planes) ≡ 8 * plane) × (length (now out) ≤ 8) × Apart plane (now planes) ⌝ }
     ensures { λ _. ⌜ now (out .exit) ≡ upto (colorantAt plane (now (planes .entry)) place) (length (now (out .entry))) ⌝ }
 {
     let ones = sum_of(plane, planes, place, 1, 3, 5, 7);

@@ -10,10 +10,11 @@ use cavzemil_plain::random::Random;
 const SMALL_WIDTHS: [u32; 5] = [1, 7, 8, 9, 17];
 
 /// Columns and rows of large windows, as wide and as tall as they may be among them.
-const LARGE_SIZES: [(u32, u32); 9] = [
+const LARGE_SIZES: [(u32, u32); 10] = [
     (65_536, 2),
     (2, 65_536),
     (65_535, 1),
+    (65_535, 2),
     (1, 65_535),
     (1003, 501),
     (4096, 64),
@@ -268,6 +269,21 @@ fn damages_that_a_sum_or_a_union_hides() {
         let whole = PlateCase::whole(Way::Unpack, columns, 2, 45);
         let planes = whole.content();
         for damage in (0..planes.len() / 8).flat_map(|place| hidden_damages(&planes, place)) {
+            check_refused(&PlateCase { damage, ..whole.clone() });
+        }
+    }
+}
+
+/// A row's first pixel in no plane, and its padding set in plane 0, which makes the last place look full: as
+/// many places of the row have eight pixels as should.
+#[test]
+fn padding_set_for_a_missing_pixel() {
+    for columns in (9..=23).filter(|columns| columns % 8 != 0).chain([531]) {
+        let whole = PlateCase::whole(Way::Unpack, columns, 2, 46);
+        let (planes, bytes) = (whole.content(), columns.div_ceil(8));
+        for first in [0, bytes] {
+            let padding = vec![(first + bytes - 1, 255 >> (columns % 8))];
+            let damage = [turned(&planes, first as usize, 128, true), padding].concat();
             check_refused(&PlateCase { damage, ..whole.clone() });
         }
     }

@@ -21,6 +21,9 @@ const CELLS: usize = (SIDE * SIDE) as usize;
 /// The columns of plates: a multiple of 128, an odd multiple of 8, and no multiple of 8.
 const PLATE_COLUMNS: [u32; 3] = [SIDE, SIDE - 8, SIDE - 3];
 
+/// The columns of narrower plates of the noisy image, in pairs: a multiple of 8, and three less.
+const NARROW_COLUMNS: [u32; 8] = [512, 509, 256, 253, 128, 125, 64, 61];
+
 /// Repeats of the library's calls, of its calls and the careful ones on plates, of the plain ones, and of
 /// copies.
 const REPEATS: u32 = 3;
@@ -354,6 +357,8 @@ fn main() {
     for columns in PLATE_COLUMNS {
         images.iter().for_each(|image| measure_plates(columns, image));
     }
+    let [_, _, noisy] = &images;
+    NARROW_COLUMNS.into_iter().for_each(|columns| measure_plates(columns, noisy));
     measure_places();
     measure_counts_and_brick();
     measure_making();

@@ -35,7 +35,7 @@ mul-row-sound c =
 row-sound-requires : tie.Need-row-sound-requires Inv-loop μ-loop
 row-sound-requires c κs =
     let start = c .before .before .before .before in
-    rw (c .before .before .row-bytes .ensures) (row-ends _ _ _ (c .loop-test .taken), omega (arith, start .pre .1))
+    rw (c .before .before .row-bytes .ensures) (start .pre .0, row-ends _ _ _ (c .loop-test .taken), omega (arith, start .pre .1))
 
 returns : tie.Need-returns Inv-loop μ-loop
 returns c =

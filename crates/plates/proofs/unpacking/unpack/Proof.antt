@@ -63,7 +63,7 @@ write-cells-requires c κs =
     let bytes = long .before .before in
     let sheet = passed (bytes .before .before .on-sheet .ensures) (bytes .before .if1 .left) in
     let size = size-kept _ _ _ _ _ _ (size-passed _ _ _ _ _ _ sheet (rw (bytes .row-bytes .ensures) at (long .before .lengths-refusal .ensures)) (long .if2 .left)) in
-    (corner-kept _ _ sheet .0, size .1, size .2, passed (tested .before .planes-sound .ensures) (tested .if3 .left))
+    (record { wide = corner-kept _ _ sheet .0; long = size .1; sound = passed (tested .before .planes-sound .ensures) (tested .if3 .left) }, size .2)
 
 same-length : tie.Need-same-length
 same-length c = search needs

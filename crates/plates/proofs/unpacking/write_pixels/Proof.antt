@@ -21,17 +21,17 @@ abbrev μ-loop : tie.MeasureT-loop
 sum-of-requires : tie.Need-sum-of-requires Inv-loop μ-loop
 sum-of-requires c κs =
     let start = c .before .before in
-    (start .pre .0, start .pre .1, omega arith, omega arith, omega arith, omega arith, sums-fit _ _ _ _ (λ p. c .before .shared-slice-known .given _ .fits) (start .pre .3) .0)
+    (start .pre .0, start .pre .1, omega arith, omega arith, omega arith, omega arith, sums-fit _ _ _ (λ p. c .before .shared-slice-known .given _ .fits) (start .pre .3) (start .pre .0) .0)
 
 sum-of-requires-2 : tie.Need-sum-of-requires-2 Inv-loop μ-loop
 sum-of-requires-2 c κs =
     let start = c .before .before .before in
-    (start .pre .0, start .pre .1, omega arith, omega arith, omega arith, omega arith, sums-fit _ _ _ _ (λ p. c .before .before .shared-slice-known .given _ .fits) (start .pre .3) .1)
+    (start .pre .0, start .pre .1, omega arith, omega arith, omega arith, omega arith, sums-fit _ _ _ (λ p. c .before .before .shared-slice-known .given _ .fits) (start .pre .3) (start .pre .0) .1)
 
 sum-of-requires-3 : tie.Need-sum-of-requires-3 Inv-loop μ-loop
 sum-of-requires-3 c κs =
     let start = c .before .before .before .before in
-    (start .pre .0, start .pre .1, omega arith, omega arith, omega arith, omega arith, sums-fit _ _ _ _ (λ p. c .before .before .before .shared-slice-known .given _ .fits) (start .pre .3) .2)
+    (start .pre .0, start .pre .1, omega arith, omega arith, omega arith, omega arith, sums-fit _ _ _ (λ p. c .before .before .before .shared-slice-known .given _ .fits) (start .pre .3) (start .pre .0) .2)
 
 loop-holds : tie.Need-loop-holds Inv-loop μ-loop
 loop-holds c = filling-start _ _
@@ -75,7 +75,7 @@ loop-again c =
     let start = c .before .before .before .before .before .before .before .before in
     filling-store (c .before .before .loop .inv) _ room
     (rw (c .mask-of .ensures, c .before .before .before .before .before .sum-of .ensures, c .before .before .before .before .sum-of2 .ensures, c .before .before .before .sum-of3 .ensures)
-    (three-bits _ _ _ _ (λ p. c .before .before .before .before .before .before .before .shared-slice-known .given _ .fits) (start .pre .3) _ room (start .pre .2)))
+    (three-bits _ _ _ (λ p. c .before .before .before .before .before .before .before .shared-slice-known .given _ .fits) (start .pre .3) (start .pre .0) _ (omega (arith, start .pre .2))))
 
 same-length : tie.Need-same-length Inv-loop μ-loop
 same-length c = filling-length (c .before .loop .inv)

@@ -2,21 +2,20 @@
 -- Assumes nothing.
 use Prim.Native.Nat.{_-_, _*_, _/_, _%_}
 use mathlib.Core.Path.{refl}
-use mathlib.Core.Logic.{inl, inr}
 use native.Mathlib.Omega.{arith}
 use lib.ListN.{length}
 use borrow.Author.Needs.{needs}
 use Rattle.arith.proofs.RunLaws.{Filling, filling-start, filling-at, filling-length, filling-whole, part-length}
 use Rattle.plates.specs.Places.{rowOf}
-use Rattle.plates.proofs.UnpackLoops.{row-part, once-part}
+use Rattle.plates.proofs.UnpackLoops.{row-part}
 use Rattle.plates.proofs.unpacking.write_row.Statement.{statement}
 use Rattle.plates.proofs.unpacking.write_row.Tie as tie
 
 abbrev Inv-loop : tie.InvT-loop
-Inv-loop plane planes start out₀ columns full b₀ out b = Filling (rowOf plane planes start) out₀ out (8 * b)
+Inv-loop plane planes start out₀ count full b₀ out b = Filling (rowOf plane planes start) out₀ out (8 * b)
 
 abbrev μ-loop : tie.MeasureT-loop
-μ-loop plane planes start out₀ columns full b₀ out b = full - b
+μ-loop plane planes start out₀ count full b₀ out b = full - b
 
 loop-holds : tie.Need-loop-holds Inv-loop μ-loop
 loop-holds c = filling-start _ _
@@ -45,7 +44,7 @@ write-pixels-requires c κs =
     let row = c .before .before .loop .inv in
     let b = c .before .before .loop .b in
     let long = part-length (8 * b) 8 (c .before .before .loop .out) (omega (arith, filling-length row)) in
-    (omega arith, start .pre .1, omega (arith, long), rw long (once-part _ _ _ _ b 8 (start .pre .2) (omega arith, omega arith) (inl refl)))
+    (omega arith, start .pre .1, omega (arith, long), start .pre .2)
 
 add-b : tie.Need-add-b Inv-loop μ-loop
 add-b c = search needs
@@ -79,23 +78,23 @@ part-write-pixels-end-2 c = omega (arith, filling-length (c .before .before .loo
 write-pixels-requires-2 : tie.Need-write-pixels-requires-2 Inv-loop μ-loop
 write-pixels-requires-2 c κs =
     let start = c .before .before .before .before .before .before in
-    let columns = length (start .args .out .now) in
+    let count = length (start .args .out .now) in
     let row = c .before .before .before .loop .inv in
-    let long = part-length (8 * (columns / 8)) (columns % 8) (c .before .before .before .loop .out) (omega (arith, filling-length row)) in
-    (omega arith, start .pre .1, omega (arith, long), rw long (once-part _ _ _ _ (columns / 8) (columns % 8) (start .pre .2) (omega arith, omega arith) (inr (omega arith))))
+    let long = part-length (8 * (count / 8)) (count % 8) (c .before .before .before .loop .out) (omega (arith, filling-length row)) in
+    (omega arith, start .pre .1, omega (arith, long), start .pre .2)
 
 same-length : tie.Need-same-length Inv-loop μ-loop
 same-length c =
     let row = c .before .before .before .before .before .before .loop .inv in
-    let columns = length (c .before .before .before .before .before .before .before .before .before .args .out .now) in
-    let whole = row-part _ _ _ (columns / 8) (filling-at row (omega arith)) (columns % 8) _ (omega arith) (omega arith) (c .before .before .write-pixels2 .ensures) in
+    let count = length (c .before .before .before .before .before .before .before .before .before .args .out .now) in
+    let whole = row-part _ _ _ (count / 8) (filling-at row (omega arith)) (count % 8) _ (omega arith) (omega arith) (c .before .before .write-pixels2 .ensures) in
     filling-length whole
 
 returns : tie.Need-returns Inv-loop μ-loop
 returns c =
     let row = c .before .before .before .before .before .before .loop .inv in
-    let columns = length (c .before .before .before .before .before .before .before .before .before .args .out .now) in
-    let whole = row-part _ _ _ (columns / 8) (filling-at row (omega arith)) (columns % 8) _ (omega arith) (omega arith) (c .before .before .write-pixels2 .ensures) in
+    let count = length (c .before .before .before .before .before .before .before .before .before .args .out .now) in
+    let whole = row-part _ _ _ (count / 8) (filling-at row (omega arith)) (count % 8) _ (omega arith) (omega arith) (c .before .before .write-pixels2 .ensures) in
     filling-whole whole _ refl (omega arith)
 
 same-length-2 : tie.Need-same-length-2 Inv-loop μ-loop
