@@ -8,7 +8,7 @@ use native.Mathlib.Decide.{decLt}
 use native.Mathlib.Omega.{arith}
 use mathlib.Core.List.{List, [], _∷_, _++_, append-nil, append-assoc}
 use lib.ListN.{length, getD, set, take, drop, length-append, length-replicate, length-take, length-drop, drop-of-length-le, List·getD-append, List·getD-eq-default}
-use lib.Seq.{set-at, getD-at, take-at, drop-at, drop-drop, drop-cons, append-snoc, take-all, length-take-le, getD-take, getD-drop, getD-append-add}
+use lib.Seq.{set-at, getD-at, take-at, drop-at, drop-drop, drop-cons, append-snoc, take-all, length-take-le, getD-take, getD-drop, getD-append-add, ext-getD}
 use borrow.Rule.Slice.PartMut.{putMid}
 use Rattle.arith.specs.Run.{upto, zeros}
 
@@ -38,6 +38,14 @@ pub upto-same : (f g : ℕ → ℕ) (n : ℕ) → ((i : ℕ) → i < n → f i �
 unfolding upto
 upto-same f g zero h = refl
 upto-same f g (suc n) h = rw (upto-same f g n (λ i l. h i (omega arith)), h n (omega arith))
+
+-- a list of n numbers, each of which is that of its place
+pub upto-is : (f : ℕ → ℕ) (n : ℕ) (l : List ℕ) → length l ≡ n → ((i : ℕ) → i < n → getD l i 0 ≡ f i) → l ≡ upto f n
+upto-is f n l e at =
+    ext-getD 0 l (upto f n) (e ∙ sym (upto-length f n))
+    (λ i h.
+    let within : i < n = omega arith in
+    at i within ∙ sym (upto-at f n i within))
 
 -- a list of the first n elements, and of the m after them
 pub upto-add : (f : ℕ → ℕ) (n m : ℕ) → upto f (n + m) ≡ upto f n ++ upto (λ i. f (n + i)) m

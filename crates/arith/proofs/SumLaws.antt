@@ -191,6 +191,14 @@ sum-less n f g k l least less =
     go i h (yes e) = omega (arith, indicator-one e, ap f e, ap g e)
     go i h (no e) = omega (arith, indicator-none e)
 
+-- OF TERMS THAT ARE NO LARGER AND ADD UP TO THE SAME each is the same
+pub sum-tight : (n : ℕ) (f g : ℕ → ℕ) → ((i : ℕ) → i < n → f i ≤ g i) → sumBelow n f ≡ sumBelow n g → (k : ℕ) → k < n → f k ≡ g k
+sum-tight n f g least same k l = go (decLt (f k) (g k))
+  where
+    go : Dec (f k < g k) → f k ≡ g k
+    go (yes less) = absurd (ne-of-lt (sum-less n f g k l least less) same)
+    go (no more) = omega (arith, least k l)
+
 -- a map that takes no value twice takes t at most once
 sum-once : (n : ℕ) (h : ℕ → ℕ) (t : ℕ) → ((i j : ℕ) → i < n → j < n → h i ≡ h j → i ≡ j) → sumBelow n (λ i. indicator (eqb (h i) t)) ≤ 1
 unfolding sumBelow
@@ -208,16 +216,7 @@ sum-once (suc n) h t apart = go (sum-once n h t (λ i j k l. apart i j (le-step 
 
 -- n NUMBERS THAT ARE EACH AT MOST 1 AND ADD UP TO n are each 1
 pub sum-full : (n : ℕ) (f : ℕ → ℕ) → ((i : ℕ) → i < n → f i ≤ 1) → sumBelow n f ≡ n → (t : ℕ) → t < n → f t ≡ 1
-unfolding sumBelow
-sum-full zero f h e t l = absurd (not-suc-le-zero l)
-sum-full (suc n) f h e t l =
-    let least : sumBelow n f ≤ n = sum-bounded n f (λ i k. h i (le-step k)) in
-    let last : f n ≤ 1 = h n (le-refl (suc n)) in
-    go (sum-full n f (λ i k. h i (le-step k)) (omega arith) t) (omega arith) (eq-or-lt-of-le (le-of-suc-le-suc l))
-  where
-    go : (t < n → f t ≡ 1) → f n ≡ 1 → (t ≡ n) ⊎ (t < n) → f t ≡ 1
-    go ih x (inl q) = ap f q ∙ x
-    go ih x (inr k) = ih k
+sum-full n f h e = sum-tight n f (λ i. 1) h (e ∙ sym (sum-constant n 1 (λ i. 1) (λ i l. refl) ∙ mul-one n))
 
 -- EACH EXACTLY ONCE: a map of the numbers below n to themselves that takes no value twice takes each value once
 pub each-once : (n : ℕ) (h : ℕ → ℕ) → ((i : ℕ) → i < n → h i < n) → ((i j : ℕ) → i < n → j < n → h i ≡ h j → i ≡ j)
@@ -306,13 +305,3 @@ module _ (F : ℕ → ℕ) (falls : (k : ℕ) → F (suc k) ≤ F k) where
     where
       go : (a b d s t : ℕ) → a ≡ b + d → s + m * a ≡ t → s + suc m * d + suc m * b ≡ t + a
       go a b d s t e h = omega (arith, ap (λ (x : ℕ). m * x) e)
-
--- ---- sums that are equal
-
--- OF TERMS THAT ARE NO LARGER AND ADD UP TO THE SAME each is the same
-pub sum-tight : (n : ℕ) (f g : ℕ → ℕ) → ((i : ℕ) → i < n → f i ≤ g i) → sumBelow n f ≡ sumBelow n g → (k : ℕ) → k < n → f k ≡ g k
-sum-tight n f g least same k l = go (decLt (f k) (g k))
-  where
-    go : Dec (f k < g k) → f k ≡ g k
-    go (yes less) = absurd (ne-of-lt (sum-less n f g k l least less) same)
-    go (no more) = omega (arith, least k l)

@@ -8,14 +8,14 @@ use native.Mathlib.Nat.{le-of-eq, mul-zero, mul-one}
 use native.Mathlib.Decide.{ℕ-discrete, decLt}
 use native.Mathlib.Omega.{arith}
 use lib.ListN.{length, getD, set, length-set}
-use lib.Seq.{getD-set-same, getD-set-other, ext-getD}
+use lib.Seq.{getD-set-same, getD-set-other}
 use lib.Dec.{eqb}
 use borrow.Author.Tests.{eqb-true, eq-eqb, ne-eqb}
 use Rattle.arith.specs.Every.{every}
 use Rattle.arith.specs.Sum.{sumBelow, indicator}
 use Rattle.arith.specs.Run.{upto}
 use Rattle.arith.specs.Tally.{tally}
-use Rattle.arith.proofs.RunLaws.{upto-length, upto-at, upto-same}
+use Rattle.arith.proofs.RunLaws.{upto-length, upto-at, upto-same, upto-is}
 use Rattle.arith.proofs.EveryLaws.{every-is}
 use Rattle.arith.proofs.SumLaws.{indicator-none, sum-constant, sum-met, sum-plus, sum-full}
 
@@ -68,26 +68,16 @@ pub tally-places : (v : ℕ) (l : List ℕ) → tally v l ≡ sumBelow (length l
 tally-places v l = ap (tally v) by-places ∙ tally-upto v (λ i. getD l i 0) (length l)
   where
     by-places : l ≡ upto (λ i. getD l i 0) (length l)
-    by-places =
-        ext-getD 0 l (upto (λ i. getD l i 0) (length l)) (sym (upto-length _ (length l)))
-        (λ i h. sym (upto-at (λ i. getD l i 0) (length l) i h))
+    by-places = upto-is _ (length l) l refl (λ i h. refl)
 
 -- A TABLE of numbers with one more at place v
 pub table-bump : (g : ℕ → ℕ) (n v : ℕ) → v < n → set (upto g n) v (g v + 1) ≡ upto (λ j. g j + indicator (eqb v j)) n
 table-bump g n v l =
-    ext-getD 0 (set (upto g n) v (g v + 1)) (upto (λ j. g j + indicator (eqb v j)) n)
-    (length-set (upto g n) v (g v + 1) ∙ upto-length g n ∙ sym (upto-length (λ j. g j + indicator (eqb v j)) n))
-    (λ j h. at j (rw (length-set (upto g n) v (g v + 1), upto-length g n) at h))
+    upto-is _ n (set (upto g n) v (g v + 1)) (length-set (upto g n) v (g v + 1) ∙ upto-length g n) (λ j h. go j h (ℕ-discrete j v))
   where
-    at : (j : ℕ) → j < n → getD (set (upto g n) v (g v + 1)) j 0 ≡ getD (upto (λ j. g j + indicator (eqb v j)) n) j 0
-    at j h = go (ℕ-discrete j v) ∙ sym (upto-at (λ j. g j + indicator (eqb v j)) n j h)
-      where
-        go : Dec (j ≡ v) → getD (set (upto g n) v (g v + 1)) j 0 ≡ g j + indicator (eqb v j)
-        go (yes e) =
-            rw (eq-eqb v j (sym e), e)
-            (getD-set-same (upto g n) v (g v + 1) 0 (rw (upto-length g n) l))
-        go (no f) =
-            rw (ne-eqb v j (λ q. f (sym q)), getD-set-other (upto g n) v j (g v + 1) 0 f) (upto-at g n j h ∙ omega arith)
+    go : (j : ℕ) → j < n → Dec (j ≡ v) → getD (set (upto g n) v (g v + 1)) j 0 ≡ g j + indicator (eqb v j)
+    go j h (yes e) = rw (eq-eqb v j (sym e), e) (getD-set-same (upto g n) v (g v + 1) 0 (rw (upto-length g n) l))
+    go j h (no f) = rw (ne-eqb v j (λ q. f (sym q)), getD-set-other (upto g n) v j (g v + 1) 0 f) (upto-at g n j h ∙ omega arith)
 
 -- a table that holds the tallies of a list, after one element more
 pub tallies-bump : (t : ℕ → ℕ) (l : List ℕ) (n v : ℕ) → v < n
@@ -100,6 +90,4 @@ tallies-bump t l n v h =
 -- and at the start, where no element is counted yet
 pub tallies-none : (t : List ℕ) (n : ℕ) → length t ≡ n → t ≡ upto (λ j. getD t j 0 + tally j []) n
 unfolding tally
-tallies-none t n e =
-    ext-getD 0 t (upto (λ j. getD t j 0 + tally j []) n) (e ∙ sym (upto-length _ n))
-    (λ j h. sym (upto-at (λ j. getD t j 0 + tally j []) n j (rw e at h) ∙ omega arith))
+tallies-none t n e = upto-is _ n t e (λ j h. omega arith)

@@ -13,12 +13,10 @@ use lib.Arith.{digits-lt}
 use lib.Dec.{eqb, ltb, leb}
 use lib.ListN.{length, getD, set}
 use lib.Pow.{shl-exact}
-use lib.Seq.{ext-getD}
 use borrow.Author.Tests.{lt-ltb, le-ltb, le-leb, lt-leb}
 use Rattle.arith.specs.Every.{every}
-use Rattle.arith.specs.Run.{upto}
 use Rattle.arith.specs.Sum.{sumBelow, indicator}
-use Rattle.arith.proofs.RunLaws.{upto-length, upto-at}
+use Rattle.arith.proofs.RunLaws.{upto-is}
 use Rattle.arith.proofs.SumLaws.{sum-same, sum-front}
 use Rattle.plates.specs.Masks.{mask}
 use Rattle.plates.specs.Planes.{rowBytes, planesLength, cellAt, inPlane, planeByte, planesByte, planesOf, colorantsOnly}
@@ -71,8 +69,12 @@ module _ {cells : List ℕ} {highest i : ℕ} (s : HighestAt cells highest i) wh
 byte-shifted : (v : ℕ) → v < 8 → 2 ^ (8 * v) ≡ 256 ^ v
 byte-shifted = each (λ v. 2 ^ (8 * v) ≡ 256 ^ v) refl refl refl refl refl refl refl refl
 
--- so a mask that is shifted is its mask times 256 to the power of the colorant
-mask-at : (m v : ℕ) → m < 256 → v < 8 → m * 2 ^ (8 * v) % 18446744073709551616 ≡ m * 256 ^ v
+-- a mask, shifted so within 64 digits,
+abbrev pub shifted : ℕ → ℕ → ℕ
+shifted m v = m * 2 ^ (8 * v) % 18446744073709551616
+
+-- is the mask times 256 to the power of the colorant
+mask-at : (m v : ℕ) → m < 256 → v < 8 → shifted m v ≡ m * 256 ^ v
 mask-at m v h l = shl-exact {a = m} 8 (8 * v) 64 h (omega arith) ∙ ap (λ (k : ℕ). m * k) (byte-shifted v l)
 
 -- the first t pixels are added
@@ -86,14 +88,14 @@ word-start cell pixels = record { within = omega arith; sum = refl }
 
 module _ {cell : ℕ → ℕ} {pixels word t : ℕ} (s : WordAt cell pixels word t) where
   module _ (low : (i : ℕ) → i < pixels → cell i < 8) (l : t < pixels) (m : ℕ) (e : m ≡ mask t) where
-    word-more : word + m * 2 ^ (8 * cell t) % 18446744073709551616 ≡ wordOf cell (t + 1)
+    word-more : word + shifted m (cell t) ≡ wordOf cell (t + 1)
     unfolding wordOf sumBelow
     word-more = rw (add-one t, e, mask-at (mask t) (cell t) (mask-small t) (low t l)) (ap (λ (n : ℕ). n + mask t * 256 ^ cell t) (s .sum))
 
-    pub word-fits : pixels ≤ 8 → word + m * 2 ^ (8 * cell t) % 18446744073709551616 < 18446744073709551616
+    pub word-fits : pixels ≤ 8 → word + shifted m (cell t) < 18446744073709551616
     word-fits few = rw word-more (word-below cell (t + 1) (λ i k. low i (omega arith)) (omega arith))
 
-    pub word-next : WordAt cell pixels (word + m * 2 ^ (8 * cell t) % 18446744073709551616) (t + 1)
+    pub word-next : WordAt cell pixels (word + shifted m (cell t)) (t + 1)
     word-next = record { within = omega arith; sum = word-more }
 
   pub word-end : pixels ≤ t → word ≡ wordOf cell pixels
@@ -200,12 +202,11 @@ module _ (columns rows : ℕ) (cells : List ℕ) where
   pub packed-end : {planes : List ℕ} → PackedTo columns rows cells planes (rows * rowBytes columns) → planes ≡ planesOf columns rows cells
   unfolding planesOf
   packed-end {planes} s =
-      ext-getD 0 planes (upto (planesByte columns rows cells) (planesLength columns rows)) (s .size ∙ sym (upto-length _ (planesLength columns rows)))
+      upto-is _ (planesLength columns rows) planes (s .size)
       (λ i l.
       let plane : ℕ = rows * rowBytes columns in
-      let within : i < 8 * plane = omega (arith, s .size) in
+      let within : i < 8 * plane = omega arith in
       let some : 0 < plane = omega arith in
       ap (λ (k : ℕ). getD planes k 0) (sym (div-add-mod' i plane))
       ∙ s .there (i / plane) (i % plane) (div-lt-iff-lt-mul {k = plane} some .1 within) (mod-lt i some)
-      ∙ ap (planesByte columns rows cells) (div-add-mod' i plane)
-      ∙ sym (upto-at _ (planesLength columns rows) i (omega arith)))
+      ∙ ap (planesByte columns rows cells) (div-add-mod' i plane))

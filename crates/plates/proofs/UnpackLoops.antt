@@ -12,14 +12,13 @@ use lib.Arith.{digits-div, digits-mod}
 use lib.Bits.{bitOr}
 use lib.Dec.{eqb}
 use lib.ListN.{length, getD, take, drop}
-use lib.Seq.{ext-getD}
 use borrow.Author.Tests.{eqb-true, ne-eqb, lt-ltb, le-ltb}
 use borrow.Rule.Slice.PartMut.{putMid, same-len-mid}
 use Rattle.arith.specs.Every.{every}
 use Rattle.arith.specs.Run.{upto}
 use Rattle.arith.specs.Sum.{sumBelow, indicator}
 use Rattle.arith.proofs.EveryLaws.{every-same, every-passes, every-fails}
-use Rattle.arith.proofs.RunLaws.{Filling, filling-length, filling-part, part-length, upto-length, upto-at, upto-same, put-before, put-within}
+use Rattle.arith.proofs.RunLaws.{Filling, filling-length, filling-part, part-length, upto-length, upto-at, upto-same, upto-is, put-before, put-within}
 use Rattle.arith.proofs.SumLaws.{sum-next, sum-bounded}
 use Rattle.arith.proofs.TallyLaws.{indicator-le, every-counted}
 use Rattle.plates.specs.Planes.{rowBytes, cellsLength, colorantOf, cellsOf}
@@ -167,11 +166,7 @@ module _ {columns rows : ℕ} {planes : List ℕ} where
 
     pub written-end : cellsLength columns rows ≤ n → cells ≡ cellsOf columns rows planes
     unfolding cellsOf
-    written-end h =
-        ext-getD 0 cells (upto _ (cellsLength columns rows)) (s .size ∙ sym (upto-length _ (cellsLength columns rows)))
-        (λ i l.
-        let within : i < cellsLength columns rows = omega (arith, s .size) in
-        s .there i (omega arith) ∙ sym (upto-at _ (cellsLength columns rows) i within))
+    written-end h = upto-is _ (cellsLength columns rows) cells (s .size) (λ i l. s .there i (omega arith))
 
     -- so many pixels of the next row are lent
     pub written-part : {to pixels : ℕ} → Roomy columns rows to pixels → (y : ℕ) → y < to
