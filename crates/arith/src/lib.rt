@@ -1,6 +1,8 @@
 // What every crate above shares: whole-number arithmetic, and the number of the rules in force. Its
 // functions are these three; what the crates above take from here besides are the definitions of specs/ and
 // the laws of proofs/.
+#![tactic(auto)]
+
 ghost use Rattle.std.specs.Prelude.{◌≡◌, eqb};
 ghost use Rattle.arith.specs.Gcd.{gcd_of};
 ghost use Rattle.arith.specs.Rules.{rules_in_force};

@@ -1,6 +1,8 @@
 // Prints what `bill::charge` answers: the worked examples, prices and tallies that are all different, each
 // limit of refusals 6, 12 and 13 from both sides, several refusals at once, rounding, and jobs beside their
 // windows. The file stdout holds what this must print.
+#![tactic(auto)]
+
 
 // The most cells of a window.
 const FULL: u64 = 4294967296;

@@ -5,14 +5,14 @@ ghost use Rattle.cavzemil.specs.Bills.{charge_laid};
 
 // Cents for a million cells, by colorant.
 #[repr(C)]
-#[derive(Drop)]
+#[derive(Clone, Copy)]
 pub struct Prices {
     pub of: [u32; 8],
 }
 
 // A job's charge in cents, or the number of what refuses it.
 #[repr(C)]
-#[derive(Drop)]
+#[derive(Clone, Copy)]
 pub struct Charge {
     pub refusal: u32,
     pub cents: u64,

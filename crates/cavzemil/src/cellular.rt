@@ -9,7 +9,7 @@ use crate::separations::{UNKNOWN, inks_of, is_known, separation_of};
 
 // The predicted X, Y and Z, or the number of what refuses the call and the set that it carries.
 #[repr(C)]
-#[derive(Drop)]
+#[derive(Clone, Copy)]
 pub struct Cellular {
     pub refusal: u32,
     pub set: u32,

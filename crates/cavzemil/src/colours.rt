@@ -11,7 +11,7 @@ use predict::Xyz;
 
 // How many of a screen's cells each colorant gets, or the number of what refuses it.
 #[repr(C)]
-#[derive(Drop)]
+#[derive(Clone, Copy)]
 pub struct Counts {
     pub refusal: u32,
     pub of: [u32; 8],
@@ -19,7 +19,7 @@ pub struct Counts {
 
 // The predicted X, Y and Z, or the number of what refuses the call and the colorant that it carries.
 #[repr(C)]
-#[derive(Drop)]
+#[derive(Clone, Copy)]
 pub struct Prediction {
     pub refusal: u32,
     pub colorant: u32,

@@ -1,5 +1,7 @@
 // The C interface of the library (rules 14.1 to 14.4): its calls under C names, with structs that C lays
 // out as it does its own, and slices as a pointer and then a length.
+#![tactic(auto)]
+
 mod bills;
 mod cellular;
 mod colours;

@@ -8,7 +8,7 @@ use crate::screens::{Screen, screen_of};
 
 // A screen, and the number of what refuses the call that hands it back.
 #[repr(C)]
-#[derive(Drop)]
+#[derive(Clone, Copy)]
 pub struct Made {
     pub refusal: u32,
     pub screen: Screen,

@@ -7,7 +7,7 @@ ghost use Rattle.cavzemil.specs.Screens.{screen_of, place_laid, brick_laid};
 // A screen: the slope a/b, the cell count n, the number of subscreens k and the offset g; and, stored with
 // them, the columns, the rows and the shift of its brick.
 #[repr(C)]
-#[derive(Drop)]
+#[derive(Clone, Copy)]
 pub struct Screen {
     pub a: u32,
     pub b: u32,
@@ -21,7 +21,7 @@ pub struct Screen {
 
 // The phase of a place, or the number of what refuses it.
 #[repr(C)]
-#[derive(Drop)]
+#[derive(Clone, Copy)]
 pub struct Place {
     pub refusal: u32,
     pub phase: u32,
@@ -29,7 +29,7 @@ pub struct Place {
 
 // A brick's columns, rows and shift, or the number of what refuses it.
 #[repr(C)]
-#[derive(Drop)]
+#[derive(Clone, Copy)]
 pub struct Brick {
     pub refusal: u32,
     pub columns: u32,

@@ -8,7 +8,7 @@ use crate::separations::{UNKNOWN, inks_of, is_known, separation_of};
 
 // The part of the sheet that a call renders: its corner, and how many columns and rows it has.
 #[repr(C)]
-#[derive(Drop)]
+#[derive(Clone, Copy)]
 pub struct Window {
     pub x: u32,
     pub y: u32,
@@ -18,7 +18,7 @@ pub struct Window {
 
 // The colorant of a place, or the number of what refuses it.
 #[repr(C)]
-#[derive(Drop)]
+#[derive(Clone, Copy)]
 pub struct Cell {
     pub refusal: u32,
     pub colorant: u32,
@@ -26,7 +26,7 @@ pub struct Cell {
 
 // How many cells were written in each colorant, or the number of what refuses the call.
 #[repr(C)]
-#[derive(Drop)]
+#[derive(Clone, Copy)]
 pub struct Rendering {
     pub refusal: u32,
     pub tallies: [u64; 8],

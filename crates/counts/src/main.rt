@@ -1,5 +1,7 @@
 // The counts program: standard input, at most one byte more than is admitted, through `counts_text::run` to
 // standard output (rules 10.1 and 10.9).
+#![tactic(auto)]
+
 
 fn main() {
     let mut input = [0u8; 65537];

@@ -7,7 +7,7 @@ use screen::Screen;
 
 // The screen, where the P lines begin and how many they are; or the number of the first bad line and what
 // refuses it.
-#[derive(Drop)]
+#[derive(Clone, Copy)]
 pub enum Verdict {
     Good(Screen, usize, u32),
     Bad(u32, u32),

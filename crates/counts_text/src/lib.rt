@@ -1,5 +1,7 @@
 // The counts program as a function from the bytes that it reads to the bytes that it writes (rules 10.1 to
 // 10.8).
+#![tactic(auto)]
+
 mod judging;
 mod numbers;
 mod parsers;

@@ -9,7 +9,7 @@ use screen::Screen;
 use separation::{Inks, Separation};
 
 // A number and where the next field begins, the last number of its line, or no such number.
-#[derive(Drop)]
+#[derive(Clone, Copy)]
 pub enum Field {
     More(u32, usize),
     Last(u32),
@@ -17,14 +17,14 @@ pub enum Field {
 }
 
 // An admitted screen and where the next line begins, or what refuses the line.
-#[derive(Drop)]
+#[derive(Clone, Copy)]
 pub enum ScreenLine {
     ScreenRead(Screen, usize),
     ScreenRefused(u32),
 }
 
 // A separation, ink values and where the next line begins, or a line of another form.
-#[derive(Drop)]
+#[derive(Clone, Copy)]
 pub enum PatchLine {
     PatchRead(Separation, Inks, usize),
     PatchRefused,

@@ -3,6 +3,8 @@
 // that is run as it is, 30 and 31 behind one that is first filled up with zeros and a newline to 65536 and
 // to 65537 bytes, and 28 behind a heading, which is only printed. The file stdout holds what this must
 // print.
+#![tactic(auto)]
+
 ghost use Rattle.std.specs.Prelude.{◌≤◌, ◌<◌};
 
 // Reads the file stdin, which is no longer than the room for it.

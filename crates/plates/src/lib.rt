@@ -1,5 +1,7 @@
 // Plates: a window's cells packed into eight planes of bits, one for each colorant, and unpacked again
 // (rules 8.1 to 8.8). A set bit means that the plane's ink prints at that pixel.
+#![tactic(auto)]
+
 mod packing;
 mod unpacking;
 

@@ -1,6 +1,8 @@
 // Prints what the calls of `plates` answer and leave in lent memory: round trips of windows of several
 // widths, and each limit of refusals 5, 6, 7 and 9 from both sides. The file stdout holds what this must
 // print.
+#![tactic(auto)]
+
 
 // 36 colorants, all eight among them.
 const CELLS: [u8; 36] = [

@@ -12,7 +12,7 @@ use separation::{Inks, Separation};
 
 // The predicted X, Y and Z, the lowest set that has a value beyond its limits, or the number of what
 // refuses the call.
-#[derive(Drop)]
+#[derive(Clone, Copy)]
 pub enum Cellular {
     Colour(f64, f64, f64),
     BadSet(u32),

@@ -1,5 +1,7 @@
 // Predicted colour: the mean of the primaries over a screen's cells (rules 9.1 to 9.5). Cellular prediction
 // (rules 16.1 to 16.8) stands in files of its own, and takes the limits of a value and the mean from here.
+#![tactic(auto)]
+
 mod cellular;
 mod order;
 
@@ -12,7 +14,7 @@ use screen::Screen;
 use separation::{Inks, Separation};
 
 // A colour's X, Y and Z: a primary, a running sum or a mean.
-#[derive(Drop)]
+#[derive(Clone, Copy)]
 pub struct Xyz {
     pub x: f64,
     pub y: f64,
@@ -21,7 +23,7 @@ pub struct Xyz {
 
 // The predicted X, Y and Z, the first colorant that has a value beyond its limits, or what refuses the
 // screen.
-#[derive(Drop)]
+#[derive(Clone, Copy)]
 pub enum Prediction {
     Colour(f64, f64, f64),
     BadPrimary(u32),

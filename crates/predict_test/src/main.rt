@@ -2,6 +2,8 @@
 // bits. Of both: full tones, negative zeros, values that do not add up exactly, good and bad values beside
 // the limits, bad screens, stored numbers that are wrong, and mixed cases. Of the second also: ink values in every
 // order, equal counts, and runs of the right length and of others. The file stdout holds what this must print.
+#![tactic(auto)]
+
 ghost use Rattle.std.specs.Prelude.{◌<◌};
 
 use predict::{Cellular, Prediction, Xyz};
@@ -10,7 +12,7 @@ use separation::{Inks, Separation};
 
 // What the values of the sets' records are: whole numbers, drawn hundredths, or a few times the smallest
 // number above 0.
-#[derive(Drop)]
+#[derive(Clone, Copy)]
 enum Kind {
     Whole,
     Uneven,

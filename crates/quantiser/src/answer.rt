@@ -2,7 +2,7 @@
 // module that differ only in the case of their letters.
 
 // How many of a screen's cells each colorant gets, or the number of what refuses it.
-#[derive(Drop)]
+#[derive(Clone, Copy)]
 pub struct Counts {
     pub refusal: u32,
     pub of: [u32; 8],

@@ -2,6 +2,8 @@
 // separations at the corners, each limit of the screen, stored numbers that are wrong, counts of screens
 // that are not tested, tables of thresholds and thresholds by themselves, the colorants of phases, and mixed
 // cases. The file stdout holds what this must print.
+#![tactic(auto)]
+
 ghost use Rattle.std.specs.Prelude.{◌<◌};
 
 use screen::Screen;

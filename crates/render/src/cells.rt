@@ -9,7 +9,7 @@ use separation::{Inks, Separation};
 
 // The last cell painted: its ink values with the levels of their running sums, and its colorant. The
 // unit of levels, 2 * D, is the same for all cells.
-#[derive(Drop)]
+#[derive(Clone, Copy)]
 pub struct Paint {
     pub c: u8,
     pub m: u8,

@@ -1,4 +1,6 @@
 // The two renderers, and the cell of a lone place (rules 7.1 to 7.8).
+#![tactic(auto)]
+
 mod bricks;
 mod cells;
 mod refusals;
@@ -8,7 +10,7 @@ mod windows;
 pub use windows::{cell_at, render, render_brick};
 
 // The part of the sheet that a call renders: its corner, and how many columns and rows it has.
-#[derive(Drop)]
+#[derive(Clone, Copy)]
 pub struct Window {
     pub x: u32,
     pub y: u32,
@@ -17,14 +19,14 @@ pub struct Window {
 }
 
 // How many cells were written in each colorant, or the number of what refuses the call.
-#[derive(Drop)]
+#[derive(Clone, Copy)]
 pub struct Rendering {
     pub refusal: u32,
     pub tallies: [u64; 8],
 }
 
 // The colorant of a place, or the number of what refuses it.
-#[derive(Drop)]
+#[derive(Clone, Copy)]
 pub struct Cell {
     pub refusal: u32,
     pub colorant: u32,

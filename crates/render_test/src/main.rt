@@ -1,6 +1,8 @@
 // Prints what the calls of `render` answer, both renderers called alike: patches on whole bricks, pixels
 // of their own ink values, each refusal beside what is admitted, empty windows, the sheet's last places,
 // lone places, mixed cases, and stored numbers that are wrong. The file stdout holds what this must print.
+#![tactic(auto)]
+
 ghost use Rattle.std.specs.Prelude.{◌≤◌};
 
 use render::{Rendering, Window};
@@ -8,7 +10,7 @@ use screen::Screen;
 use separation::{Inks, Separation};
 
 // The ink values of the first pixel; each later pixel has those before it times `by`, modulo 256.
-#[derive(Drop)]
+#[derive(Clone, Copy)]
 struct Values {
     c: u8,
     m: u8,
@@ -18,7 +20,7 @@ struct Values {
 
 // How many bytes of input and output and how many places of the brick are lent, and which place of the
 // brick is made wrong, 106 being none.
-#[derive(Drop)]
+#[derive(Clone, Copy)]
 struct Lent {
     input: usize,
     out: usize,

@@ -7,7 +7,7 @@ ghost use Rattle.screen.specs.Brick.{brick_of, phase_at_place, buffer_refusal, f
 use crate::{Screen, refusal};
 
 // A brick's columns L, rows H and shift S, or the number of what refuses it.
-#[derive(Drop)]
+#[derive(Clone, Copy)]
 pub struct Brick {
     pub refusal: u32,
     pub columns: u32,

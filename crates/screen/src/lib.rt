@@ -1,6 +1,8 @@
 // Juxtaposed line screens: which screens are admitted, how one is made, a number of it replaced and the whole
 // seen from another corner, the phase of a place, and the brick of phases that repeats over the sheet (rules
 // 1.1 to 3.9, 17.1 to 17.6 and 19.1 to 19.4).
+#![tactic(auto)]
+
 mod bricks;
 mod making;
 mod moving;
@@ -18,7 +20,7 @@ pub use places::{Place, phase_at};
 
 // A screen: the slope a/b, the cell count n, the number of subscreens k and the offset g; and, stored with
 // them, the columns, the rows and the shift of its brick.
-#[derive(Drop)]
+#[derive(Clone, Copy)]
 pub struct Screen {
     pub a: u32,
     pub b: u32,

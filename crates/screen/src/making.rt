@@ -7,7 +7,7 @@ ghost use Rattle.screen.specs.Made.{made_of, replaced_by, offset_replaced, subsc
 use crate::{Screen, numbers_refusal, refusal};
 
 // A screen, and the number of what refuses the call that hands it back.
-#[derive(Drop)]
+#[derive(Clone, Copy)]
 pub struct Made {
     pub refusal: u32,
     pub screen: Screen,

@@ -6,7 +6,7 @@ use crate::bricks::carry;
 use crate::{Screen, refusal};
 
 // The phase of a place, or the number of what refuses it.
-#[derive(Drop)]
+#[derive(Clone, Copy)]
 pub struct Place {
     pub refusal: u32,
     pub phase: u32,

@@ -1,6 +1,8 @@
 // Prints what the calls of `screen` answer: the worked examples of the rules, each limit of refusals 1 to
 // 5, 8 and 15 from both sides, lists of replacements, and screens seen from other corners. The file stdout
 // holds what this must print.
+#![tactic(auto)]
+
 use screen::{Made, Screen};
 
 fn main() {

@@ -1,16 +1,18 @@
 // Separations: how much of each of the eight colorants three ink values call for (rules 4.1 to 4.5).
+#![tactic(auto)]
+
 ghost use Rattle.std.specs.Prelude.{◌≡◌, cond, ◌-◌, ◌≤◌, ◌<◌, min, max};
 ghost use Rattle.separation.specs.Weights.{full, demichel_weight, kueppers_weight, weight, weights_of, scale_of};
 
 // How ink values become weights.
-#[derive(Drop)]
+#[derive(Clone, Copy)]
 pub enum Separation {
     Demichel,
     Kueppers,
 }
 
 // The values of the inks cyan, magenta and yellow, 255 being full.
-#[derive(Drop)]
+#[derive(Clone, Copy)]
 pub struct Inks {
     pub c: u8,
     pub m: u8,
