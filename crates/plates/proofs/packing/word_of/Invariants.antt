@@ -1,0 +1,14 @@
+-- What the loop of `plates::packing::word_of` keeps, and its measure.
+use Prim.Native.Nat.{◌+◌, ◌-◌}
+use native.Mathlib.Omega.{arith}
+use borrow.Author.Rules.{rules}
+use lib.ListN.{get_or}
+use Rattle.plates.proofs.PlaneLaws.{colorant_low}
+use Rattle.plates.proofs.PackLoops.{WordAt, word_start, word_fits, word_next, word_end}
+use Rattle.plates.proofs.packing.word_of.Given as goal
+
+abbrev pub invariant-loop-t : goal.invariant-loop-t
+invariant-loop-t l = WordAt (λ i. get_or l.cells (l.first + i) 0) l.pixels l.word l.t
+
+abbrev pub decreases-loop-t : goal.decreases-loop-t
+decreases-loop-t l = l.pixels - l.t

@@ -1,0 +1,15 @@
+-- What the loop of `plates::packing::write_planes` keeps, and its measure.
+use Prim.Native.Nat.{ℕ, ◌-◌, ◌*◌, ◌≤◌}
+use mathlib.Core.Path.{◌≡◌, sym, ap, ◌∙◌}
+use native.Mathlib.Omega.{arith}
+use borrow.Author.Rules.{rules}
+use Rattle.plates.specs.Planes.{row_bytes}
+use Rattle.plates.specs.Places.{PackedTo}
+use Rattle.plates.proofs.PackLoops.{packed_at, packed_start, packed_end}
+use Rattle.plates.proofs.packing.write_planes.Given as goal
+
+abbrev pub invariant-loop-y : goal.invariant-loop-y
+invariant-loop-y l = (l.y ≤ l.rows) × PackedTo l.columns l.rows l.cells l.planes (l.y * row_bytes l.columns)
+
+abbrev pub decreases-loop-y : goal.decreases-loop-y
+decreases-loop-y l = l.rows - l.y

@@ -1,0 +1,16 @@
+-- What the loop of `plates::packing::write_row` keeps, and its measure.
+use Prim.Native.Nat.{◌+◌, ◌-◌, ◌*◌, ◌≤◌}
+use mathlib.Core.Path.{refl, sym, ◌∙◌}
+use mathlib.Core.Logic.{inl, inr}
+use native.Mathlib.Omega.{arith}
+use borrow.Author.Rules.{rules}
+use Rattle.plates.specs.Planes.{row_bytes}
+use Rattle.plates.specs.Places.{PackedTo}
+use Rattle.plates.proofs.PackLoops.{packed_at}
+use Rattle.plates.proofs.packing.write_row.Given as goal
+
+abbrev pub invariant-loop-b : goal.invariant-loop-b
+invariant-loop-b l = (l.b ≤ l.full) × PackedTo l.columns l.rows l.cells l.planes (l.y * row_bytes l.columns + l.b)
+
+abbrev pub decreases-loop-b : goal.decreases-loop-b
+decreases-loop-b l = l.full - l.b

@@ -1,0 +1,44 @@
+-- `plates::unpacking::row_sound` meets its contract, by the laws of its loop (UnpackLoops). The measure is how many places are left.
+-- Assumes nothing.
+use Prim.Native.Nat.{◌-◌}
+use mathlib.Core.Path.{sym, ◌∙◌}
+use mathlib.Core.Logic.{⊎_elim}
+use native.Mathlib.Omega.{arith}
+use borrow.Author.Rules.{rules}
+use Rattle.plates.specs.Planes.{row_bytes}
+use Rattle.plates.proofs.UnpackLoops.{FullAt, full_start, full_few, full_more, full_kept, full_end, full_last}
+use Rattle.plates.proofs.unpacking.row_sound.Goals as goal
+
+pub row_bytes-b-end-requires : goal.row_bytes-b-end-requires
+row_bytes-b-end-requires c = c.requires.0
+
+pub loop-b-init : goal.loop-b-init
+loop-b-init c = full_start _ _ _ _
+
+pub once_at-requires : goal.once_at-requires
+once_at-requires c =
+    (omega arith, omega (arith, c.requires.1, c.row_bytes-b-end.ensures, c.loop-b-test.true), c.requires.2)
+
+pub overflow_add-passed : goal.overflow_add-passed
+overflow_add-passed c = omega (arith, full_few c.loop-b.invariant, c.loop-b.invariant.within, c.requires.0)
+
+pub loop-b-preserved : goal.loop-b-preserved
+loop-b-preserved c =
+    let so_far = c.loop-b.invariant in
+    let within = rw c.row_bytes-b-end.ensures at c.loop-b-test.true in
+    let once = sym c.once_at.ensures in
+    ⊎_elim (λ w. rw w.1 (full_more so_far within (once ∙ w.0.taken))) (λ w. rw w.1 (full_kept so_far within (once ∙ w.0.left))) c.if-once_at.branch
+
+pub overflow_cast-sound : goal.overflow_cast-sound
+overflow_cast-sound c = omega (arith, full_few c.loop-b.invariant, c.loop-b.invariant.within, c.requires.0)
+
+pub returns-then-pixels-eq0 : goal.returns-then-pixels-eq0
+returns-then-pixels-eq0 c =
+    full_end c.loop-b.invariant (rw (← c.row_bytes-b-end.ensures) c.loop-b-test.false) (omega (arith, c.if-pixels-eq0.true))
+
+pub once_at-requires-2 : goal.once_at-requires-2
+once_at-requires-2 c = (omega arith, omega (arith, c.requires.1, c.if-pixels-eq0.false), c.requires.2)
+
+pub returns : goal.returns
+returns c =
+    full_last c.loop-b.invariant (rw (← c.row_bytes-b-end.ensures) c.loop-b-test.false) c.if-pixels-eq0.false c.once_at-2.ensures

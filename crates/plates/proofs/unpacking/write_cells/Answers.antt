@@ -1,0 +1,35 @@
+-- `plates::unpacking::write_cells` meets its contract: the rows that have room, and then the others (UnpackLoops). Assumes nothing.
+use mathlib.Core.Path.{sym, ◌∙◌}
+use mathlib.Core.Logic.{⊎_elim}
+use native.Mathlib.Omega.{arith}
+use Rattle.plates.proofs.UnpackLoops.{roomy_most, roomy_none, roomy_own, written_start, written_fewer, written_end}
+use Rattle.plates.proofs.unpacking.write_cells.Goals as goal
+
+pub returns-then-rows-eq0 : goal.returns-then-rows-eq0
+returns-then-rows-eq0 c = written_end (written_start _ c.requires.1) (rw c.if-rows-eq0.true (omega arith))
+
+pub overflow_sub-roomy : goal.overflow_sub-roomy
+overflow_sub-roomy c = omega arith
+
+pub row_bytes-whole-requires : goal.row_bytes-whole-requires
+row_bytes-whole-requires c = c.requires.0.wide
+
+pub overflow_mul-whole : goal.overflow_mul-whole
+overflow_mul-whole c = omega (arith, c.row_bytes-whole.ensures, c.requires.0.wide)
+
+pub write_rows-requires : goal.write_rows-requires
+write_rows-requires c =
+    rw c.row_bytes-whole.ensures (
+      c.requires.0,
+      ⊎_elim (λ w. roomy_most _ _ (omega (arith, w.0.taken)) (omega (arith, w.1))) (λ w. roomy_none _ _ w.1) c.if-columns-ge8.branch,
+      written_fewer (written_start _ c.requires.1) _ (omega arith),
+    )
+
+pub write_rows-requires-2 : goal.write_rows-requires-2
+write_rows-requires-2 c = (c.requires.0, roomy_own _ _, c.write_rows.ensures)
+
+pub shape_of-cells : goal.shape_of-cells
+shape_of-cells c = c.write_rows-2.ensures.size ∙ sym c.requires.1
+
+pub returns : goal.returns
+returns c = written_end c.write_rows-2.ensures (omega arith)
