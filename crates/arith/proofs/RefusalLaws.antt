@@ -2,21 +2,21 @@
 -- Assumes nothing.
 use Prim.Native.Nat.{ℕ, suc}
 use mathlib.Core.Path.{◌≡◌, refl, sym, ap, ◌∙◌}
-use mathlib.Core.Bool.{Bool, true, false, ◌&&◌, cond, not, false≢true}
+use mathlib.Core.Bool.{Bool, true, false, ◌&&◌, cond, false≢true}
 use mathlib.Core.List.{List, ◌++◌, append-nil}
 use native.Mathlib.Nat.{suc-ne-zero}
 use native.Mathlib.Decide.{ℕ_discrete}
 use lib.ListN.{length, drop}
 use lib.Seq.{drop-length}
-use borrow.Author.Tests.{not-true, not-false, eq-eqb, ne_eqb}
+use borrow.Author.Tests.{eq-eqb, ne_eqb}
 use Rattle.arith.specs.Refusal.{unless, or_else, answered, written}
 
--- A TEST'S ANSWER, from the function that makes it and the branch that was taken on its negation
-pub failed : {answer test : Bool} → answer ≡ test → not answer ≡ true → test ≡ false
-failed e n = sym e ∙ not-true _ n
+-- A TEST'S ANSWER, from the function that makes it and the branch that was taken on it
+pub failed : {answer test : Bool} → answer ≡ test → answer ≡ false → test ≡ false
+failed e n = sym e ∙ n
 
-pub passed : {answer test : Bool} → answer ≡ test → not answer ≡ false → test ≡ true
-passed e n = sym e ∙ not-false _ n
+pub passed : {answer test : Bool} → answer ≡ test → answer ≡ true → test ≡ true
+passed e n = sym e ∙ n
 
 -- two tests that pass together each pass
 pub both_pass : (t u : Bool) → (t && u) ≡ true → (t ≡ true) × (u ≡ true)

@@ -66,6 +66,7 @@ pub(crate) fn numbers_refusal(a: u32, b: u32, n: u32, k: u32, g: u32) -> u32
     0
 }
 
+#[tactic(auto, using(std::proofs::lemmas::Grind::common_steps), unfolding(crate::specs::Screens::slope_admitted))]
 fn slope_admitted(a: u32, b: u32) -> bool
     ensures { result ≡ slope_admitted a b }
 {
@@ -78,6 +79,7 @@ fn cells_admitted(n: u32) -> bool
     1 <= n && n <= 4096
 }
 
+#[tactic(auto, unfolding(crate::specs::Screens::subscreens_admitted))]
 fn subscreens_admitted(n: u32, k: u32) -> bool
     ensures { result ≡ subscreens_admitted n k }
 {

@@ -1,6 +1,5 @@
 -- `screen::numbers_refusal` meets its contract: each way out has the tests that led there, and the law of its number.
 -- Assumes nothing.
-use borrow.Author.Rules.{rules}
 use borrow.Author.Tests.{lt-ltb, le-ltb}
 use Rattle.screen.specs.Screens.{offset_admitted}
 use Rattle.arith.proofs.RefusalLaws.{failed, passed}

@@ -1,6 +1,5 @@
 -- `screen::refusal` meets its contract: 1 to 4 by the five numbers, then 15 by the stored ones. Assumes nothing.
 use mathlib.Core.Path.{sym, ◌∙◌}
-use borrow.Author.Rules.{rules}
 use Rattle.arith.proofs.RefusalLaws.{failed, passed}
 use Rattle.screen.proofs.Refusals.{limits_of, refused_numbers, refused_15, stored_admitted}
 use Rattle.screen.proofs.refusal.Goals as goal

@@ -6,8 +6,8 @@ use Rattle.separation.proofs.scale.Goals as goal
 
 pub returns-in-Demichel : goal.returns-in-Demichel
 unfolding scale_of
-returns-in-Demichel c = sym (ap scale_of c.enum_told-1.given.1)
+returns-in-Demichel c = sym (ap scale_of c.in-Demichel.is)
 
 pub returns-in-Kueppers : goal.returns-in-Kueppers
 unfolding scale_of
-returns-in-Kueppers c = sym (ap scale_of c.enum_told-in-Kueppers-1.given.1)
+returns-in-Kueppers c = sym (ap scale_of c.in-Kueppers.is)

@@ -9,10 +9,10 @@ pub returns-in-Demichel : goal.returns-in-Demichel
 unfolding weight
 returns-in-Demichel c =
     let start = c.args in
-    c.demichel.ensures ∙ sym (ap (λ (sep : Separation). weight sep start.inks start.j) c.enum_told-1.given.1)
+    c.demichel.ensures ∙ sym (ap (λ (sep : Separation). weight sep start.inks start.j) c.in-Demichel.is)
 
 pub returns-in-Kueppers : goal.returns-in-Kueppers
 unfolding weight
 returns-in-Kueppers c =
     let start = c.args in
-    c.kueppers.ensures ∙ sym (ap (λ (sep : Separation). weight sep start.inks start.j) c.enum_told-in-Kueppers-1.given.1)
+    c.kueppers.ensures ∙ sym (ap (λ (sep : Separation). weight sep start.inks start.j) c.in-Kueppers.is)

@@ -54,4 +54,4 @@ returns c =
     let sheet = passed c.on_sheet.ensures c.if-not-on_sheet.false in
     let size = size_passed _ _ _ _ _ _ sheet (rw c.row_bytes.ensures at c.lengths_refusal-refused.ensures) c.if-refused-ne0.false in
     let whole = unpack_0 _ _ _ _ size (passed c.planes_sound.ensures c.if-not-planes_sound.false) in
-    (whole.0, c.write_cells.ensures ∙ whole.1)
+    record { answer = whole.0; memory = c.write_cells.ensures ∙ whole.1 }

@@ -1,6 +1,5 @@
 -- `screen::bricks::brick_of` meets its contract. Assumes nothing.
 use mathlib.Core.Path.{sym, ◌∙◌}
-use borrow.Author.Rules.{rules}
 use Rattle.screen.proofs.Refusals.{brick_none, brick_whole}
 use Rattle.screen.proofs.bricks.brick_of.Goals as goal
 

@@ -1,14 +1,12 @@
 -- `screen::bricks::fill` meets its contract, by the laws of its loop (FillLoop). The measure is how many places are left.
 -- Assumes nothing.
-use Prim.Native.Nat.{◌-◌}
 use mathlib.Core.Path.{sym, ◌∙◌}
-use mathlib.Core.Logic.{⊎_elim}
 use native.Mathlib.Nat.{le_of_lt, mod-lt, div-le_self}
 use native.Mathlib.Omega.{arith}
-use borrow.Author.Rules.{rules}
 use Rattle.arith.specs.Gcd.{gcd_of}
-use Rattle.screen.proofs.FillLoop.{FillAt, fill_start, fill_phase, fill_column, fill_length, fill_right, fill_down, fill_end}
+use Rattle.screen.proofs.FillLoop.{fill_start, fill_phase, fill_column, fill_length, fill_right, fill_down, fill_end}
 use Rattle.screen.proofs.bricks.fill.Goals as goal
+use Rattle.screen.proofs.bricks.fill.Goals.{then-column-columns, else-column-columns}
 
 pub loop-place-init : goal.loop-place-init
 loop-place-init c = fill_start _ _ _ _ c.requires.0 _ _ c.requires.2 c.carry-phase.ensures.0
@@ -33,10 +31,10 @@ pub loop-place-preserved : goal.loop-place-preserved
 loop-place-preserved c =
     let fill = c.loop-place.invariant in
     let columns = c.requires.3 in
-    ⊎_elim
-    (λ w. rw (w.2, w.3) (fill_down c.requires.0 fill _ _ c.requires.4 c.loop-place-test.true c.carry-phase-in-loop-place.ensures.0 (w.0.taken ∙ columns) w.1.ensures.0))
-    (λ w. rw (w.1, w.2) (fill_right c.requires.0 fill _ c.requires.4 c.loop-place-test.true c.carry-phase-in-loop-place.ensures.0 (λ e. w.0.left (e ∙ sym columns))))
-    c.if-column-columns.branch
+    elim c.if-column-columns.branch [
+      | then-column-columns w ↦ rw (w.phase-is, w.column-is) (fill_down c.requires.0 fill _ _ c.requires.4 c.loop-place-test.true c.carry-phase-in-loop-place.ensures.0 (w.if-column-columns.true ∙ columns) w.carry-phase-then-column-columns.ensures.0)
+      | else-column-columns w ↦ rw (w.phase-is, w.column-is) (fill_right c.requires.0 fill _ c.requires.4 c.loop-place-test.true c.carry-phase-in-loop-place.ensures.0 (λ e. w.if-column-columns.false (e ∙ sym columns)))
+    ]
 
 pub shape_of-brick : goal.shape_of-brick
 shape_of-brick c = fill_length c.requires.0 c.loop-place.invariant c.requires.4

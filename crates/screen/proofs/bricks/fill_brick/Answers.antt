@@ -1,7 +1,6 @@
 -- `screen::bricks::fill_brick` meets its contract. Assumes nothing.
 use mathlib.Core.Path.{sym, ◌∙◌}
 use native.Mathlib.Omega.{arith}
-use borrow.Author.Rules.{rules}
 use Rattle.screen.specs.Brick.{brick_phases}
 use Rattle.screen.proofs.Refusals.{limits_kept, stored_kept, buffer_refused, buffer_short, buffer_fits, filled_none, filled_whole}
 use Rattle.screen.proofs.bricks.fill_brick.Goals as goal
@@ -10,12 +9,12 @@ pub returns-then-refused-ne0 : goal.returns-then-refused-ne0
 returns-then-refused-ne0 c =
     let e = c.refusal-refused.ensures in
     let same = buffer_refused _ _ (λ z. c.if-refused-ne0.true (e ∙ z)) in
-    (e ∙ same, filled_none _ _ (λ z. c.if-refused-ne0.true (e ∙ same ∙ z)))
+    record { answer = e ∙ same; buffer = filled_none _ _ (λ z. c.if-refused-ne0.true (e ∙ same ∙ z)) }
 
 pub returns-then-brick-n : goal.returns-then-brick-n
 returns-then-brick-n c =
     let short = buffer_short _ _ (sym c.refusal-refused.ensures ∙ c.if-refused-ne0.false) c.if-brick-n.true in
-    (short, filled_none _ _ (λ z. omega (arith, short ∙ z)))
+    record { answer = short; buffer = filled_none _ _ (λ z. omega (arith, short ∙ z)) }
 
 pub fill-requires : goal.fill-requires
 fill-requires c =
@@ -27,4 +26,4 @@ pub returns : goal.returns
 unfolding brick_phases
 returns c =
     let fits = buffer_fits _ _ (sym c.refusal-refused.ensures ∙ c.if-refused-ne0.false) c.if-brick-n.false in
-    (fits, c.fill.ensures ∙ sym (filled_whole _ _ (sym fits)))
+    record { answer = fits; buffer = c.fill.ensures ∙ sym (filled_whole _ _ (sym fits)) }

@@ -1,6 +1,5 @@
 -- `screen::making::make` meets its contract. Assumes nothing.
 use mathlib.Core.Path.{sym, ◌∙◌}
-use borrow.Author.Rules.{rules}
 use Rattle.screen.specs.Screens.{screen_of}
 use Rattle.screen.proofs.Refusals.{limits_of}
 use Rattle.screen.proofs.MadeLaws.{made_refused, made_served}

@@ -1,5 +1,4 @@
 -- `screen::making::replace_offset` meets its contract. Assumes nothing.
-use borrow.Author.Rules.{rules}
 use Rattle.screen.proofs.making.replace_offset.Goals as goal
 
 pub returns : goal.returns

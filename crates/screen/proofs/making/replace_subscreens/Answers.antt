@@ -1,5 +1,4 @@
 -- `screen::making::replace_subscreens` meets its contract. Assumes nothing.
-use borrow.Author.Rules.{rules}
 use Rattle.screen.proofs.making.replace_subscreens.Goals as goal
 
 pub returns : goal.returns

@@ -1,7 +1,6 @@
 -- `screen::making::replaced_by` meets its contract: each way out has the law of what it hands back. Assumes nothing.
 use mathlib.Core.Path.{sym, ◌∙◌}
 use native.Mathlib.Omega.{arith}
-use borrow.Author.Rules.{rules}
 use Rattle.screen.specs.Screens.{screen_of}
 use Rattle.screen.proofs.Refusals.{limits_of}
 use Rattle.screen.proofs.MadeLaws.{replaced_old, replaced_new, replaced_served, replaced_beside}

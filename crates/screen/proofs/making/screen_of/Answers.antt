@@ -1,5 +1,4 @@
 -- `screen::making::screen_of` meets its contract. Assumes nothing.
-use borrow.Author.Rules.{rules}
 use Rattle.screen.proofs.BrickLaws.{rows_pos}
 use Rattle.screen.proofs.making.screen_of.Goals as goal
 
@@ -12,4 +11,4 @@ shift_of-requires c =
     (limits.0, limits.1, limits.2, limits.3, limits.4, c.gcd-rows.ensures)
 
 pub returns : goal.returns
-returns c = rw (c.gcd-rows.ensures, c.Shift-of.ensures)
+returns c = rw (c.gcd-rows.ensures, c.shift_of.ensures)

@@ -1,11 +1,7 @@
 -- What the loop of `screen::making::shift_of` keeps, and its measure.
-use Prim.Native.Nat.{◌+◌, ◌-◌, ◌*◌, ◌≤◌}
-use native.Mathlib.Nat.{le_of_lt, mod-lt, mul-le-mul}
-use native.Mathlib.Omega.{arith}
-use borrow.Author.Rules.{rules}
+use Prim.Native.Nat.{◌-◌, ◌*◌}
 use Rattle.screen.specs.Sizes.{shift_of}
-use Rattle.screen.proofs.BrickLaws.{rows_le, shift_limit}
-use Rattle.screen.proofs.ShiftLoop.{ShiftAt, shift_start, shift_ahead, shift_step, shift_end}
+use Rattle.screen.proofs.ShiftLoop.{ShiftAt}
 use Rattle.screen.proofs.making.shift_of.Given as goal
 
 abbrev pub invariant-loop-along : goal.invariant-loop-along

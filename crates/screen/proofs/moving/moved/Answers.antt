@@ -1,7 +1,6 @@
 -- `screen::moving::moved` meets its contract: an admitted screen is within the limits that `offset_of` asks. Assumes nothing.
 use mathlib.Core.Path.{sym, ◌∙◌}
 use native.Mathlib.Omega.{arith}
-use borrow.Author.Rules.{rules}
 use Rattle.screen.proofs.Refusals.{limits_kept}
 use Rattle.screen.proofs.CornerLaws.{moved_old, moved_served}
 use Rattle.screen.proofs.moving.moved.Goals as goal

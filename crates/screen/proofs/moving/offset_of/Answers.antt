@@ -2,7 +2,6 @@
 use mathlib.Core.Path.{◌∙◌}
 use native.Mathlib.Nat.{le_of_lt, mod-lt, mul-le-mul, sub-le}
 use native.Mathlib.Omega.{arith}
-use borrow.Author.Rules.{rules}
 use Rattle.screen.proofs.CornerLaws.{offset_lacking}
 use Rattle.screen.proofs.moving.offset_of.Goals as goal
 

@@ -2,7 +2,6 @@
 -- Assumes nothing.
 use mathlib.Core.Path.{sym, ◌∙◌}
 use native.Mathlib.Omega.{arith}
-use borrow.Author.Rules.{rules}
 use Rattle.screen.proofs.Refusals.{place_kept, place_none, place_whole}
 use Rattle.screen.proofs.places.phase_at.Goals as goal
 

@@ -3,7 +3,6 @@
 use mathlib.Core.Path.{◌∙◌}
 use native.Mathlib.Nat.{le_of_lt, mod-lt, mul-le-mul}
 use native.Mathlib.Omega.{arith}
-use borrow.Author.Rules.{rules}
 use Rattle.screen.proofs.PhaseLaws.{phase_apart}
 use Rattle.screen.proofs.places.phase_of.Goals as goal
 

@@ -1,7 +1,6 @@
 -- `screen::places::place_refusal` meets its contract: each way out has the law of its number.
 -- Assumes nothing.
 use mathlib.Core.Path.{sym, ◌∙◌}
-use borrow.Author.Rules.{rules}
 use Rattle.screen.proofs.Refusals.{place_refused, column_off, row_off, place_on}
 use Rattle.screen.proofs.places.place_refusal.Goals as goal
 

@@ -5,20 +5,11 @@ use Prim.Native.Nat.{ℕ, ◌*◌, ◌%◌, ◌≤◌, ◌<◌}
 use mathlib.Core.Path.{◌≡◌, ap, ap₂, ◌∙◌}
 use native.Mathlib.Nat.{le_of_dvd, le-mul_of_pos_right, zero-mul, mul_comm, mul-le-mul, pos_of_ne-zero, dvd_of_mod-eq-zero, mod-eq-zero_of_dvd}
 use native.Mathlib.Omega.{arith}
-use borrow.Author.Rules.{rules}
 use Rattle.arith.proofs.GcdLaws.{gcd_divides}
 use Rattle.screen.specs.declared.Screen.{Screen}
 use Rattle.screen.specs.Screens.{Limits, Stored}
 use Rattle.screen.proofs.BrickLaws.{brick_size, shift_below}
 use Rattle.screen.proofs.Refusals.{stored_failed, stored_told}
-module _ {s : Screen} (l : Limits s) (size : s.rows * s.columns ≡ s.n) where
-  rows-some : 0 < s.rows
-  rows-some = pos_of_ne-zero (λ z. omega (arith, l.cells_above, size, ap (λ (h : ℕ). h * s.columns) z, zero-mul s.columns))
-
-  ahead-few : s.shift < s.columns → s.a * s.shift ≤ 64 * 4096
-  ahead-few within =
-      let wide : s.columns ≤ s.n = rw (← size, mul_comm s.rows s.columns) (le-mul_of_pos_right s.columns rows-some) in
-      mul-le-mul {n₁ = s.a} {m₁ = s.shift} {n₂ = 64} {m₂ = 4096} (omega (arith, l.slope_below, l.slope_limit)) (omega (arith, wide, l.cells_limit))
 use Rattle.screen.proofs.stored.stored_true.Goals as goal
 
 -- ---- true numbers pass
@@ -41,9 +32,18 @@ module _ {s : Screen} (l : Limits s) (passed : s.a % s.rows ≡ 0) where
       let few : s.rows ≤ s.a = le_of_dvd l.slope_above (dvd_of_mod-eq-zero s.rows passed) in
       mul-le-mul {n₁ = s.b} {m₁ = s.rows} {n₂ = 64} {m₂ = 64} l.slope_limit (omega (arith, few, l.slope_below, l.slope_limit))
 
+module _ {s : Screen} (l : Limits s) (size : s.rows * s.columns ≡ s.n) where
+  rows-some : 0 < s.rows
+  rows-some = pos_of_ne-zero (λ z. omega (arith, l.cells_above, size, ap (λ (h : ℕ). h * s.columns) z, zero-mul s.columns))
+
+  ahead-few : s.shift < s.columns → s.a * s.shift ≤ 64 * 4096
+  ahead-few within =
+      let wide : s.columns ≤ s.n = rw (← size, mul_comm s.rows s.columns) (le-mul_of_pos_right s.columns rows-some) in
+      mul-le-mul {n₁ = s.a} {m₁ = s.shift} {n₂ = 64} {m₂ = 4096} (omega (arith, l.slope_below, l.slope_limit)) (omega (arith, wide, l.cells_limit))
+
 pub overflow_mul-s : goal.overflow_mul-s
 overflow_mul-s c =
-    omega (arith, mul-le-mul {n₁ = c.args.s.rows} {m₁ = c.args.s.columns} {n₂ = 4294967295} {m₂ = 4294967295} (omega (arith, c.well-formed)) (omega (arith, c.well-formed)))
+    omega (arith, mul-le-mul {n₁ = c.args.s.rows} {m₁ = c.args.s.columns} {n₂ = 4294967295} {m₂ = 4294967295} (omega arith) (omega arith))
 
 pub returns-then-s : goal.returns-then-s
 returns-then-s c = stored_failed _ (λ t. c.if-s.true (whole c.requires t))
