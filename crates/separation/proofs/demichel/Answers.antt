@@ -3,7 +3,6 @@
 use native.Mathlib.Nat.{mul-le-mul}
 use native.Mathlib.Omega.{arith}
 use Rattle.separation.specs.Weights.{demichel_weight}
-use borrow.Author.Rules.{rules}
 use Rattle.separation.proofs.demichel.Goals as goal
 
 pub overflow_mul-result : goal.overflow_mul-result

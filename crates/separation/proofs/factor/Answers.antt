@@ -1,6 +1,5 @@
 -- `separation::factor` meets its contract. Assumes nothing.
 use native.Mathlib.Omega.{arith}
-use borrow.Author.Rules.{rules}
 use Rattle.separation.proofs.factor.Goals as goal
 
 pub returns-else-held : goal.returns-else-held

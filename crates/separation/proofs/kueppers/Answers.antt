@@ -2,7 +2,6 @@
 use mathlib.Core.Path.{sym, ◌∙◌}
 use native.Mathlib.Nat.{le_of_lt, sub-eq-zero_of_le}
 use Rattle.separation.specs.Weights.{kueppers_weight}
-use borrow.Author.Rules.{rules}
 use Rattle.separation.proofs.kueppers.Goals as goal
 
 pub returns-then-low-high : goal.returns-then-low-high

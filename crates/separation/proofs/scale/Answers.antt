@@ -1,6 +1,5 @@
 -- `separation::scale` meets its contract. Assumes nothing.
 use mathlib.Core.Path.{sym, ap}
-use borrow.Author.Rules.{rules}
 use Rattle.separation.specs.Weights.{scale_of}
 use Rattle.separation.proofs.scale.Goals as goal
 

@@ -2,7 +2,6 @@
 use mathlib.Core.Path.{sym, ap, ◌∙◌}
 use Rattle.separation.specs.declared.Separation.{Separation}
 use Rattle.separation.specs.Weights.{weight}
-use borrow.Author.Rules.{rules}
 use Rattle.separation.proofs.weight.Goals as goal
 
 pub returns-in-Demichel : goal.returns-in-Demichel

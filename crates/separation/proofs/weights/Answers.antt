@@ -1,10 +1,8 @@
 -- `separation::weights` meets its contract: the loop fills a run place by place. Assumes nothing.
-use Prim.Native.Nat.{◌-◌}
 use mathlib.Core.Path.{refl}
 use native.Mathlib.Omega.{arith}
-use borrow.Author.Rules.{rules}
-use Rattle.arith.proofs.RunLaws.{Filling, filling_start, filling_store, filling_whole}
-use Rattle.separation.specs.Weights.{weight, weights_of}
+use Rattle.arith.proofs.RunLaws.{filling_start, filling_store, filling_whole}
+use Rattle.separation.specs.Weights.{weights_of}
 use Rattle.separation.proofs.weights.Goals as goal
 
 pub loop-j-init : goal.loop-j-init

@@ -1,10 +1,7 @@
 -- What the loop of `separation::weights` keeps, and its measure.
 use Prim.Native.Nat.{◌-◌}
-use mathlib.Core.Path.{refl}
-use native.Mathlib.Omega.{arith}
-use borrow.Author.Rules.{rules}
-use Rattle.arith.proofs.RunLaws.{Filling, filling_start, filling_store, filling_whole}
-use Rattle.separation.specs.Weights.{weight, weights_of}
+use Rattle.arith.proofs.RunLaws.{Filling}
+use Rattle.separation.specs.Weights.{weight}
 use Rattle.separation.proofs.weights.Given as goal
 
 abbrev pub invariant-loop-j : goal.invariant-loop-j

@@ -1,9 +1,7 @@
 -- What the loop of `plates::packing::colorants_only` keeps, and its measure.
 use Prim.Native.Nat.{◌-◌}
-use mathlib.Core.Logic.{⊎_elim}
 use lib.ListN.{length}
-use borrow.Author.Rules.{rules}
-use Rattle.plates.proofs.PackLoops.{HighestAt, highest_start, highest_raised, highest_kept, highest_end}
+use Rattle.plates.proofs.PackLoops.{HighestAt}
 use Rattle.plates.proofs.packing.colorants_only.Given as goal
 
 abbrev pub invariant-loop-i : goal.invariant-loop-i

@@ -2,7 +2,6 @@
 use mathlib.Core.Path.{◌∙◌}
 use native.Mathlib.Nat.{suc-ne-zero, mul-le-mul}
 use native.Mathlib.Omega.{arith}
-use borrow.Author.Rules.{rules}
 use Rattle.arith.proofs.RefusalLaws.{failed, passed}
 use Rattle.arith.proofs.SheetLaws.{corner_kept}
 use Rattle.plates.proofs.PlaceLaws.{planes_few}
@@ -11,7 +10,8 @@ use Rattle.plates.proofs.packing.pack.Goals as goal
 
 pub returns-then-not-on_sheet : goal.returns-then-not-on_sheet
 returns-then-not-on_sheet c =
-    pack_size_lem _ _ _ _ (size_5 _ _ _ _ _ _ (failed c.on_sheet.ensures c.if-not-on_sheet.true)) (suc-ne-zero 4)
+    let told = pack_size_lem c.args.columns c.args.rows c.args.cells.now c.args.planes.now (size_5 _ _ _ _ _ _ (failed c.on_sheet.ensures c.if-not-on_sheet.true)) (suc-ne-zero 4) in
+    record { answer = told.0; memory = told.1 }
 
 pub overflow_mul-stated : goal.overflow_mul-stated
 overflow_mul-stated c =
@@ -29,19 +29,21 @@ overflow_mul-due-2 c =
 pub returns-then-refused-ne0 : goal.returns-then-refused-ne0
 returns-then-refused-ne0 c =
     let sheet = passed c.on_sheet.ensures c.if-not-on_sheet.false in
-    pack_size_lem _ _ _ _ (c.lengths_refusal-refused.ensures ∙ rw c.row_bytes.ensures (size_lengths _ _ _ _ _ _ sheet)) c.if-refused-ne0.true
+    let told = pack_size_lem c.args.columns c.args.rows c.args.cells.now c.args.planes.now (c.lengths_refusal-refused.ensures ∙ rw c.row_bytes.ensures (size_lengths _ _ _ _ _ _ sheet)) c.if-refused-ne0.true in
+    record { answer = told.0; memory = told.1 }
 
 pub returns-then-not-colorants_only : goal.returns-then-not-colorants_only
 returns-then-not-colorants_only c =
     let sheet = passed c.on_sheet.ensures c.if-not-on_sheet.false in
     let size = size_passed _ _ _ _ _ _ sheet (rw c.row_bytes.ensures at c.lengths_refusal-refused.ensures) c.if-refused-ne0.false in
-    pack_9 _ _ _ _ size (failed c.colorants_only.ensures c.if-not-colorants_only.true)
+    let told = pack_9 c.args.columns c.args.rows c.args.cells.now c.args.planes.now size (failed c.colorants_only.ensures c.if-not-colorants_only.true) in
+    record { answer = told.0; memory = told.1 }
 
 pub write_planes-requires : goal.write_planes-requires
 write_planes-requires c =
     let sheet = passed c.on_sheet.ensures c.if-not-on_sheet.false in
     let size = size_kept _ _ _ _ _ _ (size_passed _ _ _ _ _ _ sheet (rw c.row_bytes.ensures at c.lengths_refusal-refused.ensures) c.if-refused-ne0.false) in
-    (record { wide = (corner_kept _ _ sheet).0; c = size.1; only = passed c.colorants_only.ensures c.if-not-colorants_only.false }, size.2)
+    (record { wide = (corner_kept _ _ sheet).0; long = size.1; only = passed c.colorants_only.ensures c.if-not-colorants_only.false }, size.2)
 
 pub returns : goal.returns
 returns c =

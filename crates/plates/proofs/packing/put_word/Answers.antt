@@ -1,9 +1,7 @@
 -- `plates::packing::put_word` meets its contract, by the laws of its loop (PackLoops). The measure is how many bytes are left. Assumes nothing.
-use Prim.Native.Nat.{◌-◌}
 use native.Mathlib.Omega.{arith}
-use borrow.Author.Rules.{rules}
 use Rattle.plates.proofs.PlaceLaws.{place_of_plane}
-use Rattle.plates.proofs.PackLoops.{StoringAt, storing_start, storing_size, storing_step, storing_end}
+use Rattle.plates.proofs.PackLoops.{storing_start, storing_size, storing_step, storing_end}
 use Rattle.plates.proofs.packing.put_word.Goals as goal
 
 pub loop-p-init : goal.loop-p-init

@@ -1,10 +1,8 @@
 -- `plates::packing::word_of` meets its contract, by the laws of its loop (PackLoops). The measure is how many cells are left. Assumes nothing.
-use Prim.Native.Nat.{◌+◌, ◌-◌}
+use Prim.Native.Nat.{◌+◌}
 use native.Mathlib.Omega.{arith}
-use borrow.Author.Rules.{rules}
-use lib.ListN.{get_or}
 use Rattle.plates.proofs.PlaneLaws.{colorant_low}
-use Rattle.plates.proofs.PackLoops.{WordAt, word_start, word_fits, word_next, word_end}
+use Rattle.plates.proofs.PackLoops.{word_start, word_fits, word_next, word_end}
 use Rattle.plates.proofs.packing.word_of.Goals as goal
 
 pub loop-t-init : goal.loop-t-init

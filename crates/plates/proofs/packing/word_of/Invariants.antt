@@ -1,10 +1,7 @@
 -- What the loop of `plates::packing::word_of` keeps, and its measure.
 use Prim.Native.Nat.{◌+◌, ◌-◌}
-use native.Mathlib.Omega.{arith}
-use borrow.Author.Rules.{rules}
 use lib.ListN.{get_or}
-use Rattle.plates.proofs.PlaneLaws.{colorant_low}
-use Rattle.plates.proofs.PackLoops.{WordAt, word_start, word_fits, word_next, word_end}
+use Rattle.plates.proofs.PackLoops.{WordAt}
 use Rattle.plates.proofs.packing.word_of.Given as goal
 
 abbrev pub invariant-loop-t : goal.invariant-loop-t

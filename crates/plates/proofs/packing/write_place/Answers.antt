@@ -1,6 +1,5 @@
 -- `plates::packing::write_place` meets its contract, by the law of a place (PackLoops). Assumes nothing.
 use native.Mathlib.Omega.{arith}
-use borrow.Author.Rules.{rules}
 use Rattle.plates.proofs.PlaceLaws.{row_ends, place_in}
 use Rattle.plates.proofs.PackLoops.{packed_next}
 use Rattle.plates.proofs.WordLaws.{stored_length}

@@ -1,10 +1,8 @@
 -- `plates::packing::write_planes` meets its contract: row by row. The measure is how many rows are left. Assumes nothing.
-use Prim.Native.Nat.{ℕ, ◌-◌, ◌*◌, ◌≤◌}
+use Prim.Native.Nat.{ℕ, ◌*◌}
 use mathlib.Core.Path.{◌≡◌, sym, ap, ◌∙◌}
 use native.Mathlib.Omega.{arith}
-use borrow.Author.Rules.{rules}
 use Rattle.plates.specs.Planes.{row_bytes}
-use Rattle.plates.specs.Places.{PackedTo}
 use Rattle.plates.proofs.PackLoops.{packed_at, packed_start, packed_end}
 use Rattle.plates.proofs.packing.write_planes.Goals as goal
 

@@ -1,11 +1,7 @@
 -- What the loop of `plates::packing::write_planes` keeps, and its measure.
-use Prim.Native.Nat.{ℕ, ◌-◌, ◌*◌, ◌≤◌}
-use mathlib.Core.Path.{◌≡◌, sym, ap, ◌∙◌}
-use native.Mathlib.Omega.{arith}
-use borrow.Author.Rules.{rules}
+use Prim.Native.Nat.{◌-◌, ◌*◌, ◌≤◌}
 use Rattle.plates.specs.Planes.{row_bytes}
 use Rattle.plates.specs.Places.{PackedTo}
-use Rattle.plates.proofs.PackLoops.{packed_at, packed_start, packed_end}
 use Rattle.plates.proofs.packing.write_planes.Given as goal
 
 abbrev pub invariant-loop-y : goal.invariant-loop-y

@@ -1,11 +1,7 @@
 -- `plates::packing::write_row` meets its contract: place by place. The measure is how many places of eight pixels are left. Assumes nothing.
-use Prim.Native.Nat.{◌+◌, ◌-◌, ◌*◌, ◌≤◌}
 use mathlib.Core.Path.{refl, sym, ◌∙◌}
 use mathlib.Core.Logic.{inl, inr}
 use native.Mathlib.Omega.{arith}
-use borrow.Author.Rules.{rules}
-use Rattle.plates.specs.Planes.{row_bytes}
-use Rattle.plates.specs.Places.{PackedTo}
 use Rattle.plates.proofs.PackLoops.{packed_at}
 use Rattle.plates.proofs.packing.write_row.Goals as goal
 

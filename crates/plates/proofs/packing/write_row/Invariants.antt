@@ -1,12 +1,7 @@
 -- What the loop of `plates::packing::write_row` keeps, and its measure.
 use Prim.Native.Nat.{◌+◌, ◌-◌, ◌*◌, ◌≤◌}
-use mathlib.Core.Path.{refl, sym, ◌∙◌}
-use mathlib.Core.Logic.{inl, inr}
-use native.Mathlib.Omega.{arith}
-use borrow.Author.Rules.{rules}
 use Rattle.plates.specs.Planes.{row_bytes}
 use Rattle.plates.specs.Places.{PackedTo}
-use Rattle.plates.proofs.PackLoops.{packed_at}
 use Rattle.plates.proofs.packing.write_row.Given as goal
 
 abbrev pub invariant-loop-b : goal.invariant-loop-b

@@ -1,6 +1,5 @@
 -- `plates::unpacking::full_mask` meets its contract. Assumes nothing.
 use native.Mathlib.Nat.{div-le_self}
-use borrow.Author.Rules.{rules}
 use Rattle.plates.specs.Places.{full_mask}
 use Rattle.plates.proofs.MaskLaws.{first_masks}
 use Rattle.plates.proofs.unpacking.full_mask.Goals as goal

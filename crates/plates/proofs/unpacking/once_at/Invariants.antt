@@ -1,8 +1,6 @@
 -- What the loop of `plates::unpacking::once_at` keeps, and its measure.
 use Prim.Native.Nat.{◌-◌}
-use native.Mathlib.Omega.{arith}
-use borrow.Author.Rules.{rules}
-use Rattle.plates.proofs.UnpackLoops.{SumsAt, sums_start, sums_next, sums_end}
+use Rattle.plates.proofs.UnpackLoops.{SumsAt}
 use Rattle.plates.proofs.unpacking.once_at.Given as goal
 
 abbrev pub invariant-loop-p : goal.invariant-loop-p

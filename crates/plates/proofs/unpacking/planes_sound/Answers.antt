@@ -1,12 +1,9 @@
 -- `plates::unpacking::planes_sound` meets its contract: row by row, and both tests at once (SoundLaws). The measure is how many rows are left. Assumes nothing.
-use Prim.Native.Nat.{◌-◌, ◌*◌}
 use mathlib.Core.Path.{◌∙◌}
 use native.Mathlib.Omega.{arith}
-use borrow.Author.Rules.{rules}
 use Rattle.arith.proofs.RefusalLaws.{failed, passed}
-use Rattle.arith.proofs.EveryLaws.{Passed, passed_start, passed_step, passed_fails, passed_end}
+use Rattle.arith.proofs.EveryLaws.{passed_start, passed_step, passed_fails, passed_end}
 use Rattle.plates.specs.Planes.{row_bytes}
-use Rattle.plates.specs.Places.{row_once}
 use Rattle.plates.proofs.PlaceLaws.{row_ends}
 use Rattle.plates.proofs.SoundLaws.{sound_is}
 use Rattle.plates.proofs.unpacking.planes_sound.Goals as goal

@@ -1,14 +1,8 @@
 -- What the loop of `plates::unpacking::planes_sound` keeps, and its measure.
 use Prim.Native.Nat.{◌-◌, ◌*◌}
-use mathlib.Core.Path.{◌∙◌}
-use native.Mathlib.Omega.{arith}
-use borrow.Author.Rules.{rules}
-use Rattle.arith.proofs.RefusalLaws.{failed, passed}
-use Rattle.arith.proofs.EveryLaws.{Passed, passed_start, passed_step, passed_fails, passed_end}
+use Rattle.arith.proofs.EveryLaws.{Passed}
 use Rattle.plates.specs.Planes.{row_bytes}
 use Rattle.plates.specs.Places.{row_once}
-use Rattle.plates.proofs.PlaceLaws.{row_ends}
-use Rattle.plates.proofs.SoundLaws.{sound_is}
 use Rattle.plates.proofs.unpacking.planes_sound.Given as goal
 
 abbrev pub invariant-loop-y : goal.invariant-loop-y

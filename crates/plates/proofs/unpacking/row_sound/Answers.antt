@@ -1,13 +1,10 @@
 -- `plates::unpacking::row_sound` meets its contract, by the laws of its loop (UnpackLoops). The measure is how many places are left.
 -- Assumes nothing.
-use Prim.Native.Nat.{◌-◌}
 use mathlib.Core.Path.{sym, ◌∙◌}
-use mathlib.Core.Logic.{⊎_elim}
 use native.Mathlib.Omega.{arith}
-use borrow.Author.Rules.{rules}
-use Rattle.plates.specs.Planes.{row_bytes}
-use Rattle.plates.proofs.UnpackLoops.{FullAt, full_start, full_few, full_more, full_kept, full_end, full_last}
+use Rattle.plates.proofs.UnpackLoops.{full_start, full_few, full_more, full_kept, full_end, full_last}
 use Rattle.plates.proofs.unpacking.row_sound.Goals as goal
+use Rattle.plates.proofs.unpacking.row_sound.Goals.{then-once_at, else-once_at}
 
 pub row_bytes-b-end-requires : goal.row_bytes-b-end-requires
 row_bytes-b-end-requires c = c.requires.0
@@ -27,7 +24,10 @@ loop-b-preserved c =
     let so_far = c.loop-b.invariant in
     let within = rw c.row_bytes-b-end.ensures at c.loop-b-test.true in
     let once = sym c.once_at.ensures in
-    ⊎_elim (λ w. rw w.1 (full_more so_far within (once ∙ w.0.taken))) (λ w. rw w.1 (full_kept so_far within (once ∙ w.0.left))) c.if-once_at.branch
+    elim c.if-once_at.branch [
+      | then-once_at w ↦ rw w.passed-is (full_more so_far within (once ∙ w.if-once_at.true))
+      | else-once_at w ↦ rw w.passed-is (full_kept so_far within (once ∙ w.if-once_at.false))
+    ]
 
 pub overflow_cast-sound : goal.overflow_cast-sound
 overflow_cast-sound c = omega (arith, full_few c.loop-b.invariant, c.loop-b.invariant.within, c.requires.0)

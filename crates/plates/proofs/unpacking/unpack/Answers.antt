@@ -2,7 +2,6 @@
 use mathlib.Core.Path.{◌∙◌}
 use native.Mathlib.Nat.{suc-ne-zero, mul-le-mul}
 use native.Mathlib.Omega.{arith}
-use borrow.Author.Rules.{rules}
 use Rattle.arith.proofs.RefusalLaws.{failed, passed}
 use Rattle.arith.proofs.SheetLaws.{corner_kept}
 use Rattle.plates.proofs.PlaceLaws.{planes_few}
@@ -11,7 +10,8 @@ use Rattle.plates.proofs.unpacking.unpack.Goals as goal
 
 pub returns-then-not-on_sheet : goal.returns-then-not-on_sheet
 returns-then-not-on_sheet c =
-    unpack_size_lem _ _ _ _ (size_5 _ _ _ _ _ _ (failed c.on_sheet.ensures c.if-not-on_sheet.true)) (suc-ne-zero 4)
+    let told = unpack_size_lem c.args.columns c.args.rows c.args.planes.now c.args.cells.now (size_5 _ _ _ _ _ _ (failed c.on_sheet.ensures c.if-not-on_sheet.true)) (suc-ne-zero 4) in
+    record { answer = told.0; memory = told.1 }
 
 pub row_bytes-requires : goal.row_bytes-requires
 row_bytes-requires c = (corner_kept _ _ (passed c.on_sheet.ensures c.if-not-on_sheet.false)).0
@@ -29,7 +29,8 @@ overflow_mul-due c =
 pub returns-then-refused-ne0 : goal.returns-then-refused-ne0
 returns-then-refused-ne0 c =
     let sheet = passed c.on_sheet.ensures c.if-not-on_sheet.false in
-    unpack_size_lem _ _ _ _ (c.lengths_refusal-refused.ensures ∙ rw c.row_bytes.ensures (size_lengths _ _ _ _ _ _ sheet)) c.if-refused-ne0.true
+    let told = unpack_size_lem c.args.columns c.args.rows c.args.planes.now c.args.cells.now (c.lengths_refusal-refused.ensures ∙ rw c.row_bytes.ensures (size_lengths _ _ _ _ _ _ sheet)) c.if-refused-ne0.true in
+    record { answer = told.0; memory = told.1 }
 
 pub planes_sound-requires : goal.planes_sound-requires
 planes_sound-requires c =
@@ -41,13 +42,14 @@ pub returns-then-not-planes_sound : goal.returns-then-not-planes_sound
 returns-then-not-planes_sound c =
     let sheet = passed c.on_sheet.ensures c.if-not-on_sheet.false in
     let size = size_passed _ _ _ _ _ _ sheet (rw c.row_bytes.ensures at c.lengths_refusal-refused.ensures) c.if-refused-ne0.false in
-    unpack_9 _ _ _ _ size (failed c.planes_sound.ensures c.if-not-planes_sound.true)
+    let told = unpack_9 c.args.columns c.args.rows c.args.planes.now c.args.cells.now size (failed c.planes_sound.ensures c.if-not-planes_sound.true) in
+    record { answer = told.0; memory = told.1 }
 
 pub write_cells-requires : goal.write_cells-requires
 write_cells-requires c =
     let sheet = passed c.on_sheet.ensures c.if-not-on_sheet.false in
     let size = size_kept _ _ _ _ _ _ (size_passed _ _ _ _ _ _ sheet (rw c.row_bytes.ensures at c.lengths_refusal-refused.ensures) c.if-refused-ne0.false) in
-    (record { wide = (corner_kept _ _ sheet).0; c = size.1; sound = passed c.planes_sound.ensures c.if-not-planes_sound.false }, size.2)
+    (record { wide = (corner_kept _ _ sheet).0; long = size.1; sound = passed c.planes_sound.ensures c.if-not-planes_sound.false }, size.2)
 
 pub returns : goal.returns
 returns c =

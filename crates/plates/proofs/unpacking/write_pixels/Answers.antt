@@ -1,27 +1,23 @@
 -- `plates::unpacking::write_pixels` meets its contract: each colorant has the three bits that the sums give it (ColorantLaws). The measure is how many pixels are
 -- left. Assumes nothing.
-use Prim.Native.Nat.{◌-◌}
 use mathlib.Core.Path.{refl}
 use native.Mathlib.Omega.{arith}
-use lib.ListN.{length}
-use borrow.Author.Rules.{rules}
-use Rattle.arith.proofs.RunLaws.{Filling, filling_start, filling_length, filling_store, filling_whole}
-use Rattle.plates.specs.Places.{colorant_at}
+use Rattle.arith.proofs.RunLaws.{filling_start, filling_length, filling_store, filling_whole}
 use Rattle.plates.proofs.MaskLaws.{mask_pos}
 use Rattle.plates.proofs.ColorantLaws.{sums_fit, three_bits}
 use Rattle.plates.proofs.unpacking.write_pixels.Goals as goal
 
 pub sum_of-ones-requires : goal.sum_of-ones-requires
 sum_of-ones-requires c =
-    (c.requires.0, c.requires.1, omega arith, omega arith, omega arith, omega arith, (sums_fit _ _ _ (λ p. (c.shared_slice_known-1.given _).fits) c.requires.3 c.requires.0).0)
+    (c.requires.0, c.requires.1, omega arith, omega arith, omega arith, omega arith, (sums_fit _ _ _ (λ p. (c.type_inv.planes _).fits) c.requires.3 c.requires.0).0)
 
 pub sum_of-twos-requires : goal.sum_of-twos-requires
 sum_of-twos-requires c =
-    (c.requires.0, c.requires.1, omega arith, omega arith, omega arith, omega arith, (sums_fit _ _ _ (λ p. (c.shared_slice_known-1.given _).fits) c.requires.3 c.requires.0).1)
+    (c.requires.0, c.requires.1, omega arith, omega arith, omega arith, omega arith, (sums_fit _ _ _ (λ p. (c.type_inv.planes _).fits) c.requires.3 c.requires.0).1)
 
 pub sum_of-fours-requires : goal.sum_of-fours-requires
 sum_of-fours-requires c =
-    (c.requires.0, c.requires.1, omega arith, omega arith, omega arith, omega arith, (sums_fit _ _ _ (λ p. (c.shared_slice_known-1.given _).fits) c.requires.3 c.requires.0).2)
+    (c.requires.0, c.requires.1, omega arith, omega arith, omega arith, omega arith, (sums_fit _ _ _ (λ p. (c.type_inv.planes _).fits) c.requires.3 c.requires.0).2)
 
 pub loop-t-init : goal.loop-t-init
 loop-t-init c = filling_start _ _
@@ -55,7 +51,7 @@ loop-t-preserved c =
     let room = c.loop-t-test.true in
     filling_store c.loop-t.invariant _ room
     (rw (c.mask_of-mask.ensures, c.sum_of-ones.ensures, c.sum_of-twos.ensures, c.sum_of-fours.ensures)
-    (three_bits _ _ _ (λ p. (c.shared_slice_known-1.given _).fits) c.requires.3 c.requires.0 _ (omega (arith, c.requires.2))))
+    (three_bits _ _ _ (λ p. (c.type_inv.planes _).fits) c.requires.3 c.requires.0 _ (omega (arith, c.requires.2))))
 
 pub shape_of-out : goal.shape_of-out
 shape_of-out c = filling_length c.loop-t.invariant

@@ -1,12 +1,10 @@
 -- `plates::unpacking::write_row` meets its contract, by the laws of a row's pixels (UnpackLoops). The measure is how many places of eight pixels are left.
 -- Assumes nothing.
-use Prim.Native.Nat.{◌-◌, ◌*◌, ◌/◌, ◌%◌}
+use Prim.Native.Nat.{◌*◌, ◌/◌, ◌%◌}
 use mathlib.Core.Path.{refl}
 use native.Mathlib.Omega.{arith}
 use lib.ListN.{length}
-use borrow.Author.Rules.{rules}
-use Rattle.arith.proofs.RunLaws.{Filling, filling_start, filling_at, filling_length, filling_whole, part_length}
-use Rattle.plates.specs.Places.{row_of}
+use Rattle.arith.proofs.RunLaws.{filling_start, filling_at, filling_length, filling_whole, part_length}
 use Rattle.plates.proofs.UnpackLoops.{row_part}
 use Rattle.plates.proofs.unpacking.write_row.Goals as goal
 

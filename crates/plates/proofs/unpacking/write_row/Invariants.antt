@@ -1,12 +1,7 @@
 -- What the loop of `plates::unpacking::write_row` keeps, and its measure.
-use Prim.Native.Nat.{◌-◌, ◌*◌, ◌/◌, ◌%◌}
-use mathlib.Core.Path.{refl}
-use native.Mathlib.Omega.{arith}
-use lib.ListN.{length}
-use borrow.Author.Rules.{rules}
-use Rattle.arith.proofs.RunLaws.{Filling, filling_start, filling_at, filling_length, filling_whole, part_length}
+use Prim.Native.Nat.{◌-◌, ◌*◌}
+use Rattle.arith.proofs.RunLaws.{Filling}
 use Rattle.plates.specs.Places.{row_of}
-use Rattle.plates.proofs.UnpackLoops.{row_part}
 use Rattle.plates.proofs.unpacking.write_row.Given as goal
 
 abbrev pub invariant-loop-b : goal.invariant-loop-b

@@ -1,12 +1,9 @@
 -- `plates::unpacking::write_rows` meets its contract, row by row (UnpackLoops). The measure is how many rows are left.
 -- Assumes nothing.
-use Prim.Native.Nat.{◌-◌, ◌*◌}
 use mathlib.Core.Path.{◌≡◌, sym, ◌∙◌}
 use native.Mathlib.Nat.{mul-le-mul_right}
 use native.Mathlib.Omega.{arith}
-use borrow.Author.Rules.{rules}
 use Rattle.plates.specs.Planes.{row_bytes}
-use Rattle.plates.specs.Places.{WrittenTo}
 use Rattle.plates.proofs.PlaceLaws.{row_ends}
 use Rattle.plates.proofs.SoundLaws.{planes_apart}
 use Rattle.plates.proofs.UnpackLoops.{written_fewer, written_part, written_row}

@@ -1,14 +1,6 @@
 -- What the loop of `plates::unpacking::write_rows` keeps, and its measure.
 use Prim.Native.Nat.{◌-◌, ◌*◌}
-use mathlib.Core.Path.{◌≡◌, sym, ◌∙◌}
-use native.Mathlib.Nat.{mul-le-mul_right}
-use native.Mathlib.Omega.{arith}
-use borrow.Author.Rules.{rules}
-use Rattle.plates.specs.Planes.{row_bytes}
 use Rattle.plates.specs.Places.{WrittenTo}
-use Rattle.plates.proofs.PlaceLaws.{row_ends}
-use Rattle.plates.proofs.SoundLaws.{planes_apart}
-use Rattle.plates.proofs.UnpackLoops.{written_fewer, written_part, written_row}
 use Rattle.plates.proofs.unpacking.write_rows.Given as goal
 
 abbrev pub invariant-loop-y : goal.invariant-loop-y
