@@ -1,16 +1,12 @@
 -- `quantiser::cells::colorant_of` meets its contract: the loop adds up the tests. Assumes nothing.
-use Prim.Native.Nat.{◌-◌, ◌≤◌}
 use mathlib.Core.Path.{◌≡◌, refl, ap, ◌∙◌}
-use mathlib.Core.Logic.{⊎_elim}
 use native.Mathlib.Numerals.{add-one}
 use native.Mathlib.Omega.{arith}
-use lib.ListN.{get_or}
-use lib.Dec.{ltb}
-use borrow.Author.Rules.{rules}
 use borrow.Author.Tests.{lt-ltb, le-ltb}
 use Rattle.arith.specs.Sum.{sum_below, indicator}
 use Rattle.quantiser.specs.Leaves.{rank}
 use Rattle.quantiser.proofs.cells.colorant_of.Goals as goal
+use Rattle.quantiser.proofs.cells.colorant_of.Goals.{then-levels-j, else-levels-j}
 
 pub loop-j-init : goal.loop-j-init
 unfolding sum_below
@@ -20,10 +16,10 @@ pub loop-j-preserved : goal.loop-j-preserved
 unfolding sum_below
 loop-j-preserved c =
     let inv = c.loop-j.invariant in
-    ⊎_elim
-    (λ w. rw (w.1, add-one c.loop-j.j) (omega arith, omega arith, omega (arith, inv.2, ap indicator (lt-ltb _ _ w.0.taken))))
-    (λ w. rw (w.1, add-one c.loop-j.j) (omega arith, omega arith, omega (arith, inv.2, ap indicator (le-ltb _ _ w.0.left))))
-    c.if-levels-j.branch
+    elim c.if-levels-j.branch [
+      | then-levels-j w ↦ rw (w.colorant-is, add-one c.loop-j.j) (omega arith, omega arith, omega (arith, inv.2, ap indicator (lt-ltb _ _ w.if-levels-j.true)))
+      | else-levels-j w ↦ rw (w.colorant-is, add-one c.loop-j.j) (omega arith, omega arith, omega (arith, inv.2, ap indicator (le-ltb _ _ w.if-levels-j.false)))
+    ]
 
 pub returns : goal.returns
 unfolding rank

@@ -1,15 +1,9 @@
 -- What the loop of `quantiser::cells::colorant_of` keeps, and its measure.
 use Prim.Native.Nat.{◌-◌, ◌≤◌}
-use mathlib.Core.Path.{◌≡◌, refl, ap, ◌∙◌}
-use mathlib.Core.Logic.{⊎_elim}
-use native.Mathlib.Numerals.{add-one}
-use native.Mathlib.Omega.{arith}
+use mathlib.Core.Path.{◌≡◌}
 use lib.ListN.{get_or}
 use lib.Dec.{ltb}
-use borrow.Author.Rules.{rules}
-use borrow.Author.Tests.{lt-ltb, le-ltb}
 use Rattle.arith.specs.Sum.{sum_below, indicator}
-use Rattle.quantiser.specs.Leaves.{rank}
 use Rattle.quantiser.proofs.cells.colorant_of.Given as goal
 
 abbrev pub invariant-loop-j : goal.invariant-loop-j

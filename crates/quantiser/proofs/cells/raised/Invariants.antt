@@ -1,15 +1,9 @@
 -- What the loop of `quantiser::cells::raised` keeps, and its measure.
-use Prim.Native.Nat.{ℕ, suc, ◌+◌, ◌-◌, ◌*◌, ◌≤◌}
-use mathlib.Core.Path.{◌≡◌, refl, ap, ◌∙◌}
-use native.Mathlib.Nat.{le_trans, mul-le-mul}
-use native.Mathlib.Numerals.{add-one}
-use native.Mathlib.Omega.{arith}
+use Prim.Native.Nat.{suc, ◌+◌, ◌-◌, ◌*◌}
+use mathlib.Core.Path.{◌≡◌}
 use lib.ListN.{get_or}
-use borrow.Author.Rules.{rules}
 use Rattle.arith.specs.Sum.{sum_below}
-use Rattle.arith.proofs.RunLaws.{Filling, filling_start, filling_store, filling_whole}
-use Rattle.quantiser.proofs.cells.raised.Reads as reads
-use Rattle.quantiser.proofs.cells.raised.Lts as lts
+use Rattle.arith.proofs.RunLaws.{Filling}
 use Rattle.quantiser.proofs.cells.raised.Given as goal
 
 abbrev pub invariant-loop-j : goal.invariant-loop-j

@@ -1,11 +1,9 @@
 -- `quantiser::cells::rank_phases` meets its contract, by the laws of its loop (ThresholdLoop). The measure is how many subscreens are
 -- left.
 -- Assumes nothing.
-use Prim.Native.Nat.{◌-◌}
 use native.Mathlib.Omega.{arith}
-use borrow.Author.Rules.{rules}
 use Rattle.screen.proofs.Published.{admitted_words}
-use Rattle.quantiser.proofs.ThresholdLoop.{RankAt, rank_start, rank_length, next_fits, part_small, rank_next, rank_end}
+use Rattle.quantiser.proofs.ThresholdLoop.{rank_start, rank_length, next_fits, part_small, rank_next, rank_end}
 use Rattle.quantiser.proofs.cells.rank_phases.Goals as goal
 
 pub loop-subscreen-init : goal.loop-subscreen-init

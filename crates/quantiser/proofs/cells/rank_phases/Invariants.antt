@@ -1,9 +1,6 @@
 -- What the loop of `quantiser::cells::rank_phases` keeps, and its measure.
 use Prim.Native.Nat.{◌-◌}
-use native.Mathlib.Omega.{arith}
-use borrow.Author.Rules.{rules}
-use Rattle.screen.proofs.Published.{admitted_words}
-use Rattle.quantiser.proofs.ThresholdLoop.{RankAt, rank_start, rank_length, next_fits, part_small, rank_next, rank_end}
+use Rattle.quantiser.proofs.ThresholdLoop.{RankAt}
 use Rattle.quantiser.proofs.cells.rank_phases.Given as goal
 
 abbrev pub invariant-loop-subscreen : goal.invariant-loop-subscreen

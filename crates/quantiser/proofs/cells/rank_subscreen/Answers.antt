@@ -1,12 +1,9 @@
 -- `quantiser::cells::rank_subscreen` meets its contract: the threshold is carried. The measure is how many cells are left.
 -- Assumes nothing.
-use Prim.Native.Nat.{◌+◌, ◌-◌, ◌*◌}
-use mathlib.Core.Path.{◌≡◌, refl}
+use mathlib.Core.Path.{refl}
 use native.Mathlib.Nat.{mul-le-mul_right}
 use native.Mathlib.Omega.{arith}
-use lib.ListN.{length}
-use borrow.Author.Rules.{rules}
-use Rattle.arith.proofs.RunLaws.{Filling, filling_start, filling_length, filling_store, filling_whole}
+use Rattle.arith.proofs.RunLaws.{filling_start, filling_length, filling_store, filling_whole}
 use Rattle.quantiser.proofs.cells.rank_subscreen.Goals as goal
 
 pub loop-q-init : goal.loop-q-init

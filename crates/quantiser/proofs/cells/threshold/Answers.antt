@@ -1,7 +1,6 @@
 -- `quantiser::cells::threshold` meets its contract: its tests are those of the definition (LevelLaws). Assumes nothing.
 use mathlib.Core.Path.{sym, ◌∙◌}
 use native.Mathlib.Omega.{arith}
-use borrow.Author.Rules.{rules}
 use Rattle.quantiser.proofs.LevelLaws.{lone_none, lone_beyond, lone_whole}
 use Rattle.quantiser.proofs.cells.threshold.Goals as goal
 

@@ -4,7 +4,7 @@ use Prim.Native.Nat.{◌+◌, ◌-◌, ◌≤◌}
 use native.Mathlib.Nat.{mul-le-mul}
 use native.Mathlib.Omega.{arith}
 use Rattle.screen.proofs.Published.{admitted_words}
-use Rattle.quantiser.proofs.ThresholdLoop.{PassedAt, passed_start, ends_within, passed_next, passed_end}
+use Rattle.quantiser.proofs.ThresholdLoop.{passed_start, ends_within, passed_next, passed_end}
 use Rattle.quantiser.proofs.cells.threshold_of.Goals as goal
 
 pub nonzero_div-next : goal.nonzero_div-next
@@ -32,7 +32,7 @@ loop-next-preserved c =
 pub overflow_add-next-in-loop-next : goal.overflow_add-next-in-loop-next
 overflow_add-next-in-loop-next c =
     let pre = c.requires in
-    omega (arith, ends_within pre.0 pre.1 (loop-again c), ((admitted_words _).0 pre.0).cells_limit)
+    omega (arith, ends_within pre.0 pre.1 (loop-next-preserved c), ((admitted_words _).0 pre.0).cells_limit)
 
 pub loop-next-smaller : goal.loop-next-smaller
 loop-next-smaller c = omega (arith, c.loop-next.invariant.low)

@@ -1,7 +1,6 @@
 -- `quantiser::cells::thresholds` meets its contract. Assumes nothing.
 use mathlib.Core.Path.{sym, ◌∙◌}
 use native.Mathlib.Omega.{arith}
-use borrow.Author.Rules.{rules}
 use Rattle.screen.proofs.Published.{buffer_tests}
 use Rattle.quantiser.proofs.LevelLaws.{thresholds_none, thresholds_whole}
 use Rattle.quantiser.proofs.cells.thresholds.Goals as goal

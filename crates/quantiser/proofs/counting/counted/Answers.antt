@@ -1,7 +1,6 @@
 -- `quantiser::counting::counted` meets its contract. Assumes nothing.
 use mathlib.Core.Path.{◌∙◌}
 use native.Mathlib.Omega.{arith}
-use borrow.Author.Rules.{rules}
 use Rattle.separation.specs.Laws.{InkValues}
 use Rattle.separation.proofs.Published.{weights_add_up}
 use Rattle.quantiser.proofs.RunningLaws.{running_ends}
@@ -13,10 +12,10 @@ differences-requires c =
     let s = c.args.s in
     let sep = c.args.sep in
     let inks = c.args.inks in
-    let bytes : InkValues inks = record { c_value = omega (arith, c.well-formed); m_value = omega (arith, c.well-formed); y_value = omega (arith, c.well-formed) } in
+    let bytes : InkValues inks = record { c_value = omega arith; m_value = omega arith; y_value = omega arith } in
     let ends = running_ends s sep inks (weights_add_up sep inks bytes) in
     rw c.levels.ensures (
-      λ j l. omega (arith, quotient_within s sep inks ends j l, c.well-formed),
+      λ j l. omega (arith, quotient_within s sep inks ends j l, c.well_formed),
       quotient_rises s sep inks,
     )
 

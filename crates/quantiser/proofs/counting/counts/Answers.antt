@@ -1,6 +1,5 @@
 -- `quantiser::counting::counts` meets its contract. Assumes nothing.
 use mathlib.Core.Path.{sym, ◌∙◌}
-use borrow.Author.Rules.{rules}
 use Rattle.quantiser.proofs.LevelLaws.{counts_none, counts_whole}
 use Rattle.quantiser.proofs.counting.counts.Goals as goal
 

@@ -1,13 +1,9 @@
 -- `quantiser::counting::differences` meets its contract: `last` is the quotient before. Assumes nothing.
-use Prim.Native.Nat.{ℕ, ◌-◌, ◌*◌, ◌/◌}
-use mathlib.Core.Path.{◌≡◌, refl, ap₂, ◌∙◌}
+use Prim.Native.Nat.{ℕ, ◌-◌}
+use mathlib.Core.Path.{refl, ap₂, ◌∙◌}
 use native.Mathlib.Numerals.{add-one}
 use native.Mathlib.Omega.{arith}
-use lib.ListN.{get_or}
-use borrow.Author.Rules.{rules}
-use Rattle.arith.specs.Rounding.{before}
-use Rattle.arith.proofs.RunLaws.{Filling, filling_start, filling_store, filling_whole}
-use Rattle.separation.specs.Weights.{scale_of}
+use Rattle.arith.proofs.RunLaws.{filling_start, filling_store, filling_whole}
 use Rattle.quantiser.proofs.counting.differences.Goals as goal
 
 pub loop-j-init : goal.loop-j-init

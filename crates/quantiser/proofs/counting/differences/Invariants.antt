@@ -1,12 +1,9 @@
 -- What the loop of `quantiser::counting::differences` keeps, and its measure.
-use Prim.Native.Nat.{ℕ, ◌-◌, ◌*◌, ◌/◌}
-use mathlib.Core.Path.{◌≡◌, refl, ap₂, ◌∙◌}
-use native.Mathlib.Numerals.{add-one}
-use native.Mathlib.Omega.{arith}
+use Prim.Native.Nat.{◌-◌, ◌*◌, ◌/◌}
+use mathlib.Core.Path.{◌≡◌}
 use lib.ListN.{get_or}
-use borrow.Author.Rules.{rules}
 use Rattle.arith.specs.Rounding.{before}
-use Rattle.arith.proofs.RunLaws.{Filling, filling_start, filling_store, filling_whole}
+use Rattle.arith.proofs.RunLaws.{Filling}
 use Rattle.separation.specs.Weights.{scale_of}
 use Rattle.quantiser.proofs.counting.differences.Given as goal
 
