@@ -62,6 +62,7 @@ fn first_bad(primaries: [Xyz; 8]) -> u32
 }
 
 // Whether all three values of a primary are admitted.
+#[tactic(auto, unfolding(crate::specs::Predicted::admitted))]
 fn is_admitted(p: Xyz) -> bool
     ensures { result ≡ admitted p }
 {
