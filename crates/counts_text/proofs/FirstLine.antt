@@ -8,14 +8,13 @@ use mathlib.Core.Logic.{◌⊎◌, inl, inr}
 use native.Mathlib.Omega.{arith}
 use lib.ListN.{length, get_or, take, drop}
 use borrow.Author.Tests.{lt-ltb, ltb-true, not-true}
-use Rattle.bytes.specs.Bytes.{index_of}
 use Rattle.arith.specs.Run.{upto}
 use Rattle.screen.specs.Screens.{refusal_of}
 use Rattle.separation.specs.declared.Separation.{Separation}
 use Rattle.separation.specs.declared.Separation.TheVariants.{Demichel, Kueppers}
 use Rattle.counts_text.specs.declared.parsers.PatchLine.{PatchLine}
 use Rattle.counts_text.specs.declared.parsers.PatchLine.TheVariants.{PatchRead, PatchRefused}
-use Rattle.counts_text.specs.Text.{newline, lines, line_at, fields}
+use Rattle.counts_text.specs.Text.{index_of, newline, lines, line_at, fields}
 use Rattle.counts_text.specs.Lines.{are_numbers, number_at, is_screen, screen_in, screen_by}
 use Rattle.counts_text.specs.Program.{ended, line_refusal}
 use Rattle.counts_text.specs.Parsers.{Parted, Patch, PatchSays, InksSays}

@@ -1,8 +1,8 @@
 -- Laws of `split`: a text is its first piece, the byte, and what the other pieces are of; by induction on the text.
 -- Assumes nothing.
-use Prim.Native.Nat.{ℕ, suc, ◌+◌, ◌≤◌, ◌<◌}
+use Prim.Native.Nat.{ℕ, zero, suc, ◌+◌, ◌≤◌, ◌<◌}
 use mathlib.Core.Path.{◌≡◌, refl, sym, ap, ◌∙◌}
-use mathlib.Core.Bool.{Bool, true, false}
+use mathlib.Core.Bool.{Bool, true, false, cond}
 use mathlib.Core.List.{List, [], ◌∷◌, ◌++◌}
 use mathlib.Core.Logic.{◌⊎◌, inl, inr}
 use native.Mathlib.Omega.{arith}
@@ -11,24 +11,37 @@ use native.Mathlib.Numerals.{add-one}
 use lib.Dec.{eqb}
 use lib.ListN.{length, get_or, take, drop, length-drop}
 use lib.Seq.{take-length, split_at, get_or-drop, drop-drop}
-use borrow.Author.Tests.{eqb-true}
-use Rattle.bytes.specs.Bytes.{index_of, index_after}
-use Rattle.counts_text.specs.Text.{split}
+use borrow.Author.Tests.{eqb-true, eq-eqb, ne_eqb}
+use Rattle.counts_text.specs.Text.{index_of, split}
 use Rattle.counts_text.specs.Parsers.{Parted}
 
 -- the place of a byte, or the text's length
 pub index_within : (b : ℕ) (text : List ℕ) → index_of b text ≤ length text
-unfolding index_of index_after
+unfolding index_of
 index_within b [] = omega arith
 index_within b (x ∷ text) = go (eqb x b) (index_within b text)
   where
-    go : (t : Bool) → index_of b text ≤ length text → index_after t (index_of b text) ≤ suc (length text)
+    go : (t : Bool) → index_of b text ≤ length text → cond t 0 (suc (index_of b text)) ≤ suc (length text)
     go true ih = omega arith
     go false ih = omega arith
 
+-- a place where it stands and before which it doesn't is the first
+pub index_found : (b : ℕ) (text : List ℕ) (i : ℕ) → i < length text → get_or text i 0 ≡ b → ((k : ℕ) → k < i → get_or text k 0 ≡ b → ⊥) → i ≡ index_of b text
+unfolding index_of
+index_found b [] i l e before = absurd (omega arith)
+index_found b (x ∷ text) zero l e before = rw (eq-eqb x b e) refl
+index_found b (x ∷ text) (suc i) l e before =
+    rw (ne_eqb x b (before 0 (omega arith))) (ap suc (index_found b text i (omega arith) e (λ k h. before (suc k) (omega arith))))
+
+-- and where it stands nowhere, that is the text's length
+pub index_none : (b : ℕ) (text : List ℕ) → ((k : ℕ) → k < length text → get_or text k 0 ≡ b → ⊥) → length text ≡ index_of b text
+unfolding index_of
+index_none b [] before = refl
+index_none b (x ∷ text) before = rw (ne_eqb x b (before 0 (omega arith))) (ap suc (index_none b text (λ k h. before (suc k) (omega arith))))
+
 -- what stands there is the byte
 index_at : (b : ℕ) (text : List ℕ) → index_of b text < length text → get_or text (index_of b text) 0 ≡ b
-unfolding index_of index_after
+unfolding index_of
 index_at b [] l = absurd (omega arith)
 index_at b (x ∷ text) l = go (eqb x b) refl (index_at b text)
   where
@@ -38,7 +51,7 @@ index_at b (x ∷ text) l = go (eqb x b) refl (index_at b text)
 
 -- where the byte stands nowhere, the text is the one piece
 pub split_none : (b : ℕ) (text : List ℕ) → index_of b text ≡ length text → split b text ≡ text ∷ []
-unfolding split index_of index_after
+unfolding split index_of
 split_none b [] e = refl
 split_none b (x ∷ text) e = go (eqb x b) refl (split_none b text)
   where
@@ -49,7 +62,7 @@ split_none b (x ∷ text) e = go (eqb x b) refl (split_none b text)
 -- else its first place ends the first piece, and the other pieces are those of what follows it
 pub split_some : (b : ℕ) (text : List ℕ) → index_of b text < length text
     → split b text ≡ take (index_of b text) text ∷ split b (drop (suc (index_of b text)) text)
-unfolding split index_of index_after
+unfolding split index_of
 split_some b [] l = absurd (omega arith)
 split_some b (x ∷ text) l = go (eqb x b) refl (split_some b text)
   where

@@ -2,7 +2,6 @@
 -- that its beginning is not of the form. Each is a statement of a text and an answer, by the cases of the answer.
 -- Assumes nothing.
 use Rattle.std.specs.Prelude.{ℕ, suc, ◌+◌, ◌≤◌, ◌<◌, ◌≡◌, Bool, true, false, List, length, drop}
-use Rattle.bytes.specs.Bytes.{index_of}
 use Rattle.screen.specs.Screens.{Admitted}
 use Rattle.separation.specs.declared.Separation.{Separation}
 use Rattle.counts_text.specs.declared.parsers.Field.{Field}
@@ -13,7 +12,7 @@ use Rattle.counts_text.specs.declared.parsers.PatchLine.{PatchLine}
 use Rattle.counts_text.specs.declared.parsers.PatchLine.TheVariants.{PatchRead, PatchRefused}
 use Rattle.counts_text.specs.declared.judging.Verdict.{Verdict}
 use Rattle.counts_text.specs.declared.judging.Verdict.TheVariants.{Good, Bad}
-use Rattle.counts_text.specs.Text.{newline, tab, lines, fields, line_at, field_at}
+use Rattle.counts_text.specs.Text.{newline, tab, index_of, lines, fields, line_at, field_at}
 use Rattle.counts_text.specs.Numbers.{is_number_to, value_of}
 use Rattle.counts_text.specs.Lines.{are_numbers, number_at, numbers_over, is_patch, screen_in, separation_in, inks_in, inks_by}
 use Rattle.counts_text.specs.Program.{ended, line_refusal, first_bad}

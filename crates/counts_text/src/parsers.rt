@@ -1,7 +1,7 @@
 // Parsers: each takes the rest of a text and answers what stands at its beginning and where the text goes
 // on after it, or that it is not of the form.
 ghost use Rattle.std.specs.Prelude.{◌≡◌, true, ◌≤◌, length, take};
-ghost use Rattle.bytes.specs.Bytes.{index_of};
+ghost use Rattle.counts_text.specs.Text.{index_of};
 ghost use Rattle.counts_text.specs.Parsers.{FieldRead, NumbersRead, ScreenSays, PatchSays, InksSays};
 
 use crate::numbers::{is_number, value_of};
@@ -35,7 +35,12 @@ fn place_of(text: &[u8], byte: u8) -> usize
     ensures place { result ≡ index_of byte text.now }
     ensures within { result ≤ length text.now }
 {
-    bytes::scan::find(text, 0, text.len(), byte)
+    for i in 0..text.len() {
+        if text[i] == byte {
+            return i;
+        }
+    }
+    text.len()
 }
 
 // The first field of the rest of a line, where it is a number of at most so much.
@@ -87,7 +92,7 @@ fn begins(text: &[u8], head: &[u8]) -> bool
         return false;
     }
     let end = head.len();
-    check::same(&text[..end], head)
+    text[..end] == *head
 }
 
 // The first line of a text, where it is a screen's.

@@ -3,7 +3,6 @@ use native.Mathlib.Nat.{mul-le-mul}
 use native.Mathlib.Omega.{arith}
 use Rattle.quantiser.proofs.Published.{scale_limit}
 use Rattle.render.specs.Rows.{paint_of}
-use borrow.Author.Rules.{rules}
 use Rattle.render.proofs.cells.painted.Goals as goal
 
 pub overflow_mul-bar : goal.overflow_mul-bar

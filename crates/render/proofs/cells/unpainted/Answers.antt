@@ -1,7 +1,6 @@
 -- `render::cells::unpainted` meets its contract. Assumes nothing.
 use native.Mathlib.Nat.{mul-zero}
 use native.Mathlib.Omega.{arith}
-use borrow.Author.Rules.{rules}
 use Rattle.quantiser.proofs.Published.{scale_limit, rank_none}
 use Rattle.render.specs.Rows.{paint_of}
 use Rattle.render.proofs.cells.unpainted.Goals as goal

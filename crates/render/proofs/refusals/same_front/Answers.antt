@@ -1,11 +1,9 @@
 -- `render::refusals::same_front` meets its contract: the lists have the same number at each place that the loop has passed.
 -- Assumes nothing.
-use Prim.Native.Nat.{◌-◌}
 use mathlib.Core.Path.{sym}
 use native.Mathlib.Omega.{arith}
 use borrow.Author.Tests.{eq-eqb, ne_eqb}
-use Rattle.arith.proofs.EveryLaws.{Passed, passed_start, passed_step, passed_fails, passed_end}
-use Rattle.render.proofs.RefusalLaws.{same}
+use Rattle.arith.proofs.EveryLaws.{passed_start, passed_step, passed_fails, passed_end}
 use Rattle.render.proofs.refusals.same_front.Goals as goal
 
 pub loop-i-init : goal.loop-i-init

@@ -1,9 +1,6 @@
 -- What the loop of `render::refusals::same_front` keeps, and its measure.
 use Prim.Native.Nat.{◌-◌}
-use mathlib.Core.Path.{sym}
-use native.Mathlib.Omega.{arith}
-use borrow.Author.Tests.{eq-eqb, ne_eqb}
-use Rattle.arith.proofs.EveryLaws.{Passed, passed_start, passed_step, passed_fails, passed_end}
+use Rattle.arith.proofs.EveryLaws.{Passed}
 use Rattle.render.proofs.RefusalLaws.{same}
 use Rattle.render.proofs.refusals.same_front.Given as goal
 

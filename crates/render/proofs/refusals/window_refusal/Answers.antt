@@ -2,7 +2,6 @@
 -- Assumes nothing.
 use mathlib.Core.Path.{sym, ◌∙◌}
 use native.Mathlib.Omega.{arith}
-use borrow.Author.Rules.{rules}
 use Rattle.render.proofs.RefusalLaws.{area_limit, window_screen, window_right, window_down, window_input, window_output, window_whole}
 use Rattle.render.proofs.refusals.window_refusal.Goals as goal
 

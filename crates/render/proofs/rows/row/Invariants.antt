@@ -1,12 +1,9 @@
 -- What the loop of `render::rows::row` keeps, and its measure.
-use Prim.Native.Nat.{ℕ, ◌+◌, ◌-◌, ◌*◌, ◌%◌, ◌<◌}
-use mathlib.Core.Path.{◌≡◌, ap}
-use native.Mathlib.Nat.{mod-lt}
-use native.Mathlib.Omega.{arith}
-use lib.ListN.{length, get_or}
-use borrow.Author.Rules.{rules}
+use Prim.Native.Nat.{◌+◌, ◌-◌, ◌*◌, ◌%◌, ◌<◌}
+use mathlib.Core.Path.{◌≡◌}
+use lib.ListN.{length}
 use Rattle.render.specs.Rows.{Own}
-use Rattle.render.proofs.RowLoop.{table_cells, paint_own, paint_small, cell_by, paint_cell, by_rule, carried_first, carried_on, RowAt, row_start, row_length, row_count, row_step, row_end}
+use Rattle.render.proofs.RowLoop.{cell_by, RowAt}
 use Rattle.render.proofs.rows.row.Given as goal
 
 abbrev pub invariant-loop-i : goal.invariant-loop-i

@@ -3,7 +3,6 @@ use Prim.Native.Nat.{◌*◌, ◌≤◌, ◌<◌}
 use mathlib.Core.Path.{◌∙◌}
 use native.Mathlib.Nat.{mul-le-mul}
 use native.Mathlib.Omega.{arith}
-use borrow.Author.Rules.{rules}
 use Rattle.separation.specs.Laws.{InkValues}
 use Rattle.quantiser.proofs.Published.{scale_limit, rank_below}
 use Rattle.render.proofs.AnswerLaws.{lone_refused, lone_few, lone_coloured}

@@ -1,12 +1,9 @@
 -- `render::windows::read_rows` meets its contract, by the laws of its loop (WindowLoop). The measure is how many rows are left.
 -- Assumes nothing.
-use Prim.Native.Nat.{◌+◌, ◌-◌}
 use native.Mathlib.Omega.{arith}
 use mathlib.Core.Path.{refl, ◌∙◌}
-use borrow.Author.Rules.{rules}
-use Rattle.screen.specs.declared.Screen.{Screen}
-use Rattle.render.specs.Rows.{TableOf, number_read, cells_by}
-use Rattle.render.proofs.WindowLoop.{cell_in, next_cells, WindowAt, window_start, window_length, next_fits, next_few, out_part, row_lent, window_step, window_end}
+use Rattle.render.specs.Rows.{cells_by}
+use Rattle.render.proofs.WindowLoop.{cell_in, next_cells, window_start, window_length, next_fits, next_few, out_part, row_lent, window_step, window_end}
 use Rattle.render.proofs.windows.read_rows.Goals as goal
 
 pub loop-j-init : goal.loop-j-init
@@ -52,7 +49,7 @@ loop-j-preserved c s t =
     let pre = c.requires in
     let at = c.loop-j.invariant s t in
     let call = c.brick_row in
-    window_step at within pre.2 _ _ (rw (out_part at within pre.2) at (call.ensures.0 s t) ∙ next_cells _ _ _ _ _ _ _ _ at.place (λ i. refl)) call.ensures.1
+    window_step at within pre.2 _ _ (rw (out_part at within pre.2) at (call.ensures.cells s t) ∙ next_cells _ _ _ _ _ _ _ _ at.place (λ i. refl)) call.ensures.counts
 
 pub shape_of-out : goal.shape_of-out
 shape_of-out c =

@@ -1,22 +1,17 @@
 -- `render::windows::worked_rows` meets its contract, by the laws of its loop (WindowLoop): a row begins at the phase of its first
 -- column and is carried by a. The measure is how many rows are left.
 -- Assumes nothing.
-use Prim.Native.Nat.{ℕ, ◌+◌, ◌-◌, ◌*◌, ◌%◌}
+use Prim.Native.Nat.{ℕ, ◌+◌, ◌*◌, ◌%◌}
 use mathlib.Core.Path.{◌≡◌, refl, sym, ap, ◌∙◌}
 use native.Mathlib.Nat.{le_of_lt, mod-lt}
 use native.Mathlib.Omega.{arith}
-use borrow.Author.Rules.{rules}
 use Rattle.arith.proofs.RemainderLaws.{remainder_times}
 use Rattle.screen.specs.declared.places.Place.{Place}
 use Rattle.screen.specs.Phase.{phase}
 use Rattle.screen.proofs.Published.{phase_below, steps_right, place_on_sheet}
 use Rattle.render.specs.Rows.{cells_by}
 use Rattle.render.proofs.RowLoop.{table_cells}
-use Rattle.render.proofs.WindowLoop.{cell_in, next_cells, WindowAt, window_start, window_length, next_fits, next_few, out_part, row_lent, window_step, window_end}
-use Rattle.render.proofs.windows.worked_rows.Reads as reads
-use Rattle.render.proofs.windows.worked_rows.Lts as lts
-use Rattle.render.proofs.rows.row.Reads as row_reads
-use Rattle.screen.proofs.phase_at.Reads as phase-at-reads
+use Rattle.render.proofs.WindowLoop.{cell_in, next_cells, window_start, window_length, next_fits, next_few, out_part, row_lent, window_step, window_end}
 use Rattle.render.proofs.windows.worked_rows.Goals as goal
 
 pub nonzero_rem-step : goal.nonzero_rem-step
@@ -45,28 +40,25 @@ slice_bounds-row-end-in-loop-j c =
     let pre = c.requires.1 in
     omega (arith, next_fits c.loop-j.invariant c.loop-j-test.true, window_length c.loop-j.invariant, pre.cells)
 
--- a row's first phase
-first : (c : lts.After-phase-at (phase-at-reads.Asked, phase-at-reads.Learnt, row_reads.Asked, row_reads.Learnt) reads.Pre reads.Post invariant-loop decreases-loop)
-    → c.phase-at.result.phase ≡ phase c.before.before.before.before.before.before.before.args.s c.before.before.before.before.before.before.before.args.x (c.before.before.before.before.before.before.before.args.y + c.before.before.loop.j)
-first c =
-    let start = c.before.before.before.before.before.before.before in
-    ap (λ (p : Place). p.phase) (c.phase-at.ensures ∙ place_on_sheet _ start.requires.0.admitted _ _ (omega (arith, start.requires.1.wide, start.requires.1.across)) (omega (arith, start.requires.1.high)))
-
 pub row-requires : goal.row-requires
 row-requires c =
-    record { table = ((c.args.s, c.requires.0), rw (first c) (phase_below _ c.requires.0.admitted _ _), le_of_lt (mod-lt _ (table_cells c.requires.0).0)); row_lent = row_lent c.loop-j.invariant c.loop-j-test.true c.requires.1 _ refl }
+    let first : c.phase_at-phase.result.phase ≡ phase c.args.s c.args.x (c.args.y + c.loop-j.j) = ap (λ (p : Place). p.phase) (c.phase_at-phase.ensures ∙ place_on_sheet _ c.requires.0.admitted _ _ (omega (arith, c.requires.1.wide, c.requires.1.across)) (omega (arith, c.requires.1.high))) in
+    record { table = ((c.args.s, c.requires.0), rw first (phase_below _ c.requires.0.admitted _ _), le_of_lt (mod-lt _ (table_cells c.requires.0).0)); row_lent = row_lent c.loop-j.invariant c.loop-j-test.true c.requires.1 _ refl }
 
 pub loop-j-preserved : goal.loop-j-preserved
 loop-j-preserved c =
     let within = c.loop-j-test.true in
     let s = c.args.s in
-    let carried : (i : ℕ) → (c.phase_at-phase.result.phase + s.a % s.n * i) % s.n ≡ phase s (c.args.x + i) (c.args.y + c.loop-j.j) = λ i. rw (first c) (remainder_times _ s.a s.n i ∙ sym (steps_right s c.requires.0.admitted _ _ i)) in
+    let first : c.phase_at-phase.result.phase ≡ phase c.args.s c.args.x (c.args.y + c.loop-j.j) = ap (λ (p : Place). p.phase) (c.phase_at-phase.ensures ∙ place_on_sheet _ c.requires.0.admitted _ _ (omega (arith, c.requires.1.wide, c.requires.1.across)) (omega (arith, c.requires.1.high))) in
+    let carried : (i : ℕ) → (c.phase_at-phase.result.phase + s.a % s.n * i) % s.n ≡ phase s (c.args.x + i) (c.args.y + c.loop-j.j) = λ i. rw first (remainder_times _ s.a s.n i ∙ sym (steps_right s c.requires.0.admitted _ _ i)) in
     let call = c.row in
-    window_step c.loop-j.invariant within c.requires.1 _ _ (rw (out_part c.loop-j.invariant within c.requires.1) at (call.ensures.0 s c.requires.0) ∙ next_cells _ _ _ _ _ _ _ _ c.loop-j.invariant.place carried) call.ensures.1
+    window_step c.loop-j.invariant within c.requires.1 _ _ (rw (out_part c.loop-j.invariant within c.requires.1) at (call.ensures.cells s c.requires.0) ∙ next_cells _ _ _ _ _ _ _ _ c.loop-j.invariant.place carried) call.ensures.counts
 
 pub shape_of-out : goal.shape_of-out
 shape_of-out c = window_length c.loop-j.invariant
 
 pub returns : goal.returns
 unfolding cells_by cell_in
-returns c = window_end c.loop-j.invariant _ c.loop-j-test.false c.requires.1.cells
+returns c =
+    let done = window_end c.loop-j.invariant _ c.loop-j-test.false c.requires.1.cells in
+    record { cells = done.0; counts = done.1 }

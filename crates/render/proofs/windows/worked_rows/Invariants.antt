@@ -1,20 +1,7 @@
 -- What the loop of `render::windows::worked_rows` keeps, and its measure.
-use Prim.Native.Nat.{ℕ, ◌+◌, ◌-◌, ◌*◌, ◌%◌}
-use mathlib.Core.Path.{◌≡◌, refl, sym, ap, ◌∙◌}
-use native.Mathlib.Nat.{le_of_lt, mod-lt}
-use native.Mathlib.Omega.{arith}
-use borrow.Author.Rules.{rules}
-use Rattle.arith.proofs.RemainderLaws.{remainder_times}
-use Rattle.screen.specs.declared.places.Place.{Place}
+use Prim.Native.Nat.{◌+◌, ◌-◌}
 use Rattle.screen.specs.Phase.{phase}
-use Rattle.screen.proofs.Published.{phase_below, steps_right, place_on_sheet}
-use Rattle.render.specs.Rows.{cells_by}
-use Rattle.render.proofs.RowLoop.{table_cells}
-use Rattle.render.proofs.WindowLoop.{cell_in, next_cells, WindowAt, window_start, window_length, next_fits, next_few, out_part, row_lent, window_step, window_end}
-use Rattle.render.proofs.windows.worked_rows.Reads as reads
-use Rattle.render.proofs.windows.worked_rows.Lts as lts
-use Rattle.render.proofs.rows.row.Reads as row_reads
-use Rattle.screen.proofs.phase_at.Reads as phase-at-reads
+use Rattle.render.proofs.WindowLoop.{cell_in, WindowAt}
 use Rattle.render.proofs.windows.worked_rows.Given as goal
 
 abbrev pub invariant-loop-j : goal.invariant-loop-j
