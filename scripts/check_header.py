@@ -125,9 +125,9 @@ def c_declared(text):
 def source_declared():
     """What the source declares for callers outside."""
     text = "".join(read(path) for path in glob("crates/cavzemil/src/**/*.rt", recursive=True))
-    declared = rust_declared(text, r'#\[no_mangle\]\s*pub extern "C" ')
+    declared = rust_declared(text, r'#\[unsafe\(no_mangle\)\]\s*pub extern "C" ')
     exported = [name for name, (word, *_) in declared.items() if word == "parameters"]
-    if len(exported) != text.count("#[no_mangle]"):
+    if len(exported) != text.count("no_mangle"):
         sys.exit("crates/cavzemil/src: a function is exported in a form that is not understood")
     return declared
 

@@ -14,7 +14,7 @@ from glob import glob
 from files import read
 from rules import RULES_IN_FORCE
 
-SKIPPED = {".git", "target"}
+SKIPPED = {".git", "target", "out"}
 # `rule 3.2`, `rules 3.2 and 3.4`, `rules 3.1, 3.2 or 3.6`, `rules 3.2 to 3.5`
 CITED = re.compile(r"\brules? (\d+\.\d+(?:(?:,? and|,? or|,| to) \d+\.\d+)*)", re.IGNORECASE)
 NUMBER = re.compile(r"\d+\.\d+")

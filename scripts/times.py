@@ -1,11 +1,10 @@
-"""Prints where the time of the check goes, as a table: run in the repository's root.
+"""Prints how large the crates are and where the time of the check goes, as a table: run in the repository's root.
 
-    python3 -B scripts/times.py LOG OUTSIDE WALL
+    python3 -B scripts/times.py LOG CI OUTSIDE WALL
 
-LOG is what `rt ci` printed; OUTSIDE and WALL are the seconds of the tests from outside and of everything. A crate's row has
-the seconds of its proof, the number and the seconds of its must-fail edits, and its lines of code, definitions and proofs
-(src/, specs/ and proofs/). Proofs and edits run two or more at a time where there are as many cores, so that the sum may be
-above the wall clock.
+LOG is what `rt ci` printed; CI, OUTSIDE and WALL are the seconds of that run, of the tests from outside and of everything. A
+crate's row says whether this run proved it or an earlier one of the same files on this machine, and has the number of its
+must-fail edits that were refused, and its lines of code, definitions and proofs (src/, specs/ and proofs/).
 """
 
 import re
@@ -14,7 +13,7 @@ from glob import glob
 
 from files import read
 
-COLUMNS = "proof s", "edits", "edits s", "code", "definitions", "proofs"
+COLUMNS = "proved", "edits", "code", "definitions", "proofs"
 
 
 def lines(crate, folder, suffix):
@@ -24,11 +23,11 @@ def lines(crate, folder, suffix):
 
 
 def rows(log):
-    """Each crate that was proved, in the order of the log, with its numbers."""
-    for crate, proof in re.findall(r"^rt: (\w+) proved \((\d+) s\)$", log, re.MULTILINE):
-        edits = [int(s) for s in re.findall(rf"^rt: must-fail {crate}/.* (\d+) s\)$", log, re.MULTILINE)]
+    """Each crate that was proved, in the order of the log: whether now or earlier, and its numbers."""
+    for crate, how in re.findall(r"^rt: (\w+) (proved|is kept)\b", log, re.MULTILINE):
+        edits = len(re.findall(rf"^rt: must-fail {crate}/\S+: refused", log, re.MULTILINE))
         sizes = lines(crate, "src", ".rt"), lines(crate, "specs", ".antt"), lines(crate, "proofs", ".antt")
-        yield crate, (int(proof), len(edits), sum(edits), *sizes)
+        yield crate, "now" if how == "proved" else "earlier", (edits, *sizes)
 
 
 def line(name, cells):
@@ -36,15 +35,15 @@ def line(name, cells):
 
 
 def main():
-    path, outside, wall = sys.argv[1:]
-    found = list(rows(read(path)))
+    path, proving, outside, wall = sys.argv[1:]
+    log = read(path)
+    found = list(rows(log))
     print(line("crate", COLUMNS))
-    for crate, numbers in found:
-        print(line(crate, numbers))
-    sums = [sum(column) for column in zip(*(numbers for _, numbers in found))]
-    print(line("all crates", sums))
-    print(f"tests from outside: {outside} s")
-    print(f"sum: {sums[0] + sums[2] + int(outside)} s; wall clock: {int(wall) // 60} min {int(wall) % 60} s")
+    for crate, when, numbers in found:
+        print(line(crate, (when, *numbers)))
+    print(line("all crates", ("", *(sum(column) for column in zip(*(numbers for _, _, numbers in found))))))
+    print(*re.findall(r"^rt: ok; .*", log, re.MULTILINE), sep="\n")
+    print(f"rt ci: {proving} s; tests from outside: {outside} s; wall clock: {int(wall) // 60} min {int(wall) % 60} s")
 
 
 main()
