@@ -3,7 +3,6 @@
 // windows. The file stdout holds what this must print.
 #![tactic(auto)]
 
-
 // The most cells of a window.
 const FULL: u64 = 4294967296;
 

@@ -2,7 +2,6 @@
 // standard output (rules 10.1 and 10.9).
 #![tactic(auto)]
 
-
 fn main() {
     let mut input = [0u8; 65537];
     let got = io::read_full(0, &mut input);

@@ -3,7 +3,6 @@
 // print.
 #![tactic(auto)]
 
-
 // 36 colorants, all eight among them.
 const CELLS: [u8; 36] = [
     0, 1, 2, 3, 4, 5, 6, 7, 7, 0, 5, 2, 7, 4, 1, 6, 3, 0, 0, 0, 6, 6, 1, 3, 5, 7, 2, 4, 4, 3, 2, 1,

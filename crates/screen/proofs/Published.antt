@@ -106,11 +106,11 @@ filled_is_true s buffer room e =
 
 pub read_from_brick : ReadFromBrick
 unfolding brick_place
-read_from_brick s e buffer true-brick x y =
+read_from_brick s e buffer true_brick x y =
     let pos = (limits e).cells_above in
     let u = remainder_below x (shift s * (y / rows s)) (columns s) (BrickLaws.columns_pos s.a s.n pos) in
     let v = mod-lt y (BrickLaws.rows_pos s.a s.n pos) in
-    ((true-brick e).1 _ _ u v ∙ BrickLaws.in_first_brick s.a s.b s.n s.g pos x y, place_below s e _ _ u v)
+    ((true_brick e).1 _ _ u v ∙ BrickLaws.in_first_brick s.a s.b s.n s.g pos x y, place_below s e _ _ u v)
 
 pub buffer_tests : BufferRefused
 buffer_tests s places = (Refusals.buffer_refused s places, Refusals.buffer_short s places, Refusals.buffer_fits s places)

@@ -32,7 +32,7 @@ cut v high low h = rw (zero-max, min-eq_right h) (omega arith)
 
 -- the weights that there would be without cyan, by whether magenta and yellow are held
 two : Inks → Bool → Bool → ℕ
-two inks m-held y-held = min (cond m-held inks.m full) (cond y-held inks.y full) - max (cond m-held 0 inks.m) (cond y-held 0 inks.y)
+two inks m_held y_held = min (cond m_held inks.m full) (cond y_held inks.y full) - max (cond m_held 0 inks.m) (cond y_held 0 inks.y)
 
 module _ (inks : Inks) (v : InkValues inks) where
   -- two colorants that differ by cyan

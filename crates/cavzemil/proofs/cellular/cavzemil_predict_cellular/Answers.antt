@@ -5,7 +5,6 @@ use mathlib.Core.Path.{◌≡◌, ap, ◌∙◌}
 use mathlib.Core.Bool.{true, false}
 use mathlib.Core.List.{List}
 use lib.Ieee.{Float}
-use borrow.Author.Rules.{rules}
 use Rattle.arith.proofs.RefusalLaws.{failed, passed}
 use Rattle.separation.specs.declared.Inks.{Inks}
 use Rattle.predict.specs.Numbered.{Numbered}
@@ -28,9 +27,9 @@ module _ (s : Screen) (separation : ℕ) (inks : Inks) (values : List Float) whe
   answered e q f = q ∙ ap cellular_laid f ∙ rw e
 
 pub returns-then-not-is_known : goal.returns-then-not-is_known
-returns-then-not-is_known c = unknown _ _ _ _ (failed c.is_Known.ensures c.if-not-is_known.true) c.uncoloured.ensures
+returns-then-not-is_known c = unknown _ _ _ _ (failed c.is_known.ensures c.if-not-is_known.true) c.uncoloured.ensures
 
 pub returns : goal.returns
 returns c =
-    answered _ _ _ _ (passed c.is_Known.ensures c.if-not-is_known.false) c.laid.ensures
+    answered _ _ _ _ (passed c.is_known.ensures c.if-not-is_known.false) c.laid.ensures
     (rw (c.screen_of.ensures, c.separation_of-sep.ensures, c.inks_of.ensures) at c.predict_cellular.ensures.numbered)

@@ -1,5 +1,4 @@
 -- `cavzemil::colours::primaries_in` meets its contract: each of the eight is that of its colorant. Assumes nothing.
-use borrow.Author.Rules.{rules}
 use Rattle.cavzemil.specs.Colours.{primaries_in}
 use Rattle.cavzemil.proofs.colours.primaries_in.Goals as goal
 

@@ -1,5 +1,4 @@
 -- `cavzemil::making::laid` meets its contract, field by field. Assumes nothing.
-use borrow.Author.Rules.{rules}
 use Rattle.cavzemil.proofs.making.laid.Goals as goal
 
 pub returns : goal.returns

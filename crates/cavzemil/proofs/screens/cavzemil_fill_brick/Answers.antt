@@ -1,5 +1,4 @@
 -- `cavzemil::screens::cavzemil_fill_brick` meets its contract, which is the library's. Assumes nothing.
-use borrow.Author.Rules.{rules}
 use Rattle.cavzemil.proofs.screens.cavzemil_fill_brick.Goals as goal
 
 pub returns : goal.returns

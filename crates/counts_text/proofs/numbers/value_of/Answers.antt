@@ -11,9 +11,9 @@ use Rattle.counts_text.proofs.NumberLaws.{digit_from, digit_to, value_four}
 use Rattle.counts_text.proofs.numbers.value_of.Goals as goal
 
 -- all digits of a field
-value-whole : (field : List ℕ) (i : ℕ) → i ≤ length field → length field ≤ i → value_up_to field i ≡ value_of field
+value_whole : (field : List ℕ) (i : ℕ) → i ≤ length field → length field ≤ i → value_up_to field i ≡ value_of field
 unfolding value_of
-value-whole field i h l =
+value_whole field i h l =
     let e : i ≡ length field = omega arith in
     rw e
 
@@ -41,4 +41,4 @@ loop-i-preserved c =
 pub returns : goal.returns
 returns c =
     let inv = c.loop-i.invariant in
-    inv.1 ∙ value-whole _ _ inv.2 c.loop-i-test.false
+    inv.1 ∙ value_whole _ _ inv.2 c.loop-i-test.false

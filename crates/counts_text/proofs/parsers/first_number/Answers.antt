@@ -20,9 +20,9 @@ module _ (most : ℕ) (text field : List ℕ) (e : field_at text 0 ≡ field) wh
   no_number_lem n = rw (e, n)
 
   module _ (n : is_number field ≡ true) (v : ℕ) (q : v ≡ value_of field) where
-    too-great : most < v → is_number_to most (field_at text 0) ≡ false
+    too_great : most < v → is_number_to most (field_at text 0) ≡ false
     unfolding is_number_to
-    too-great h = rw (e, n, sym q, lt-leb v most h)
+    too_great h = rw (e, n, sym q, lt-leb v most h)
 
     number_read_lem : v ≤ most → NumberRead most text v
     unfolding is_number_to
@@ -43,7 +43,7 @@ value_of-value-requires c = passed c.is_number.ensures c.if-not-is_number.false
 
 pub returns-then-most-value : goal.returns-then-most-value
 returns-then-most-value c =
-    too-great _ _ _ (found_piece tab _ _ c.place_of-end.ensures.place) (passed c.is_number.ensures c.if-not-is_number.false) _ c.value_of-value.ensures c.if-most-value.true
+    too_great _ _ _ (found_piece tab _ _ c.place_of-end.ensures.place) (passed c.is_number.ensures c.if-not-is_number.false) _ c.value_of-value.ensures c.if-most-value.true
 
 pub returns-then-end-text : goal.returns-then-end-text
 returns-then-end-text c =

@@ -27,18 +27,18 @@ module _ {s : Screen} (l : Limits s) (t : Stored s) where
 -- ---- what has passed is small enough
 
 module _ {s : Screen} (l : Limits s) (passed : s.a % s.rows ≡ 0) where
-  down-few : s.b * s.rows ≤ 64 * 64
-  down-few =
+  down_few : s.b * s.rows ≤ 64 * 64
+  down_few =
       let few : s.rows ≤ s.a = le_of_dvd l.slope_above (dvd_of_mod-eq-zero s.rows passed) in
       mul-le-mul {n₁ = s.b} {m₁ = s.rows} {n₂ = 64} {m₂ = 64} l.slope_limit (omega (arith, few, l.slope_below, l.slope_limit))
 
 module _ {s : Screen} (l : Limits s) (size : s.rows * s.columns ≡ s.n) where
-  rows-some : 0 < s.rows
-  rows-some = pos_of_ne-zero (λ z. omega (arith, l.cells_above, size, ap (λ (h : ℕ). h * s.columns) z, zero-mul s.columns))
+  rows_some : 0 < s.rows
+  rows_some = pos_of_ne-zero (λ z. omega (arith, l.cells_above, size, ap (λ (h : ℕ). h * s.columns) z, zero-mul s.columns))
 
-  ahead-few : s.shift < s.columns → s.a * s.shift ≤ 64 * 4096
-  ahead-few within =
-      let wide : s.columns ≤ s.n = rw (← size, mul_comm s.rows s.columns) (le-mul_of_pos_right s.columns rows-some) in
+  ahead_few : s.shift < s.columns → s.a * s.shift ≤ 64 * 4096
+  ahead_few within =
+      let wide : s.columns ≤ s.n = rw (← size, mul_comm s.rows s.columns) (le-mul_of_pos_right s.columns rows_some) in
       mul-le-mul {n₁ = s.a} {m₁ = s.shift} {n₂ = 64} {m₂ = 4096} (omega (arith, l.slope_below, l.slope_limit)) (omega (arith, wide, l.cells_limit))
 
 pub overflow_mul-s : goal.overflow_mul-s
@@ -49,7 +49,7 @@ pub returns-then-s : goal.returns-then-s
 returns-then-s c = stored_failed _ (λ t. c.if-s.true (whole c.requires t))
 
 pub nonzero_rem-s : goal.nonzero_rem-s
-nonzero_rem-s c = rows-some c.requires c.if-s.false
+nonzero_rem-s c = rows_some c.requires c.if-s.false
 
 pub returns-then-s-ne0 : goal.returns-then-s-ne0
 returns-then-s-ne0 c = stored_failed _ (λ t. c.if-s-ne0.true (divides c.requires t))
@@ -58,14 +58,14 @@ pub returns-then-s-2 : goal.returns-then-s-2
 returns-then-s-2 c = stored_failed _ (λ t. omega (arith, c.if-s-2.true, below c.requires t))
 
 pub overflow_mul-result : goal.overflow_mul-result
-overflow_mul-result c = omega (arith, ahead-few c.requires c.if-s.false c.if-s-2.false)
+overflow_mul-result c = omega (arith, ahead_few c.requires c.if-s.false c.if-s-2.false)
 
 pub overflow_mul-result-2 : goal.overflow_mul-result-2
-overflow_mul-result-2 c = omega (arith, down-few c.requires c.if-s-ne0.false)
+overflow_mul-result-2 c = omega (arith, down_few c.requires c.if-s-ne0.false)
 
 pub overflow_add-result : goal.overflow_add-result
 overflow_add-result c =
-    omega (arith, ahead-few c.requires c.if-s.false c.if-s-2.false, down-few c.requires c.if-s-ne0.false)
+    omega (arith, ahead_few c.requires c.if-s.false c.if-s-2.false, down_few c.requires c.if-s-ne0.false)
 
 pub nonzero_rem-result : goal.nonzero_rem-result
 nonzero_rem-result c = c.requires.cells_above
