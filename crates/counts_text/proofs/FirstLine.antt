@@ -2,12 +2,12 @@
 -- Assumes nothing.
 use Prim.Native.Nat.{ℕ, ◌+◌, ◌≤◌, ◌<◌}
 use mathlib.Core.Path.{◌≡◌, refl, sym, ap, ◌∙◌}
-use mathlib.Core.Bool.{Bool, true, false, not, true≢false}
+use mathlib.Core.Bool.{Bool, true, false, true≢false}
 use mathlib.Core.List.{List}
 use mathlib.Core.Logic.{◌⊎◌, inl, inr}
 use native.Mathlib.Omega.{arith}
 use lib.ListN.{length, get_or, take, drop}
-use borrow.Author.Tests.{lt-ltb, ltb-true, not-true}
+use borrow.Author.Tests.{lt-ltb, ltb-true}
 use Rattle.arith.specs.Run.{upto}
 use Rattle.screen.specs.Screens.{refusal_of}
 use Rattle.separation.specs.declared.Separation.{Separation}
@@ -16,7 +16,7 @@ use Rattle.counts_text.specs.declared.parsers.PatchLine.{PatchLine}
 use Rattle.counts_text.specs.declared.parsers.PatchLine.TheVariants.{PatchRead, PatchRefused}
 use Rattle.counts_text.specs.Text.{index_of, newline, lines, line_at, fields}
 use Rattle.counts_text.specs.Lines.{are_numbers, number_at, is_screen, screen_in, screen_by}
-use Rattle.counts_text.specs.Program.{ended, line_refusal}
+use Rattle.counts_text.specs.Program.{line_refusal}
 use Rattle.counts_text.specs.Parsers.{Parted, Patch, PatchSays, InksSays}
 use Rattle.counts_text.proofs.SplitLaws.{found_piece, found_none, found_some, parted_count}
 use Rattle.counts_text.proofs.HeadLaws.{head_s, head_p, screen_headed, screen_head, patch_headed, patch_head}
@@ -29,8 +29,8 @@ cannot false h = refl
 
 -- what the function that compares heads says, of a head that it did not find
 module _ {P : Type 0} {answer : Bool} (complete : P → answer ≡ true) where
-  pub not_found : not answer ≡ true → P → ⊥
-  not_found n p = true≢false (sym (complete p) ∙ not-true answer n)
+  pub not_found : answer ≡ false → P → ⊥
+  not_found n p = true≢false (sym (complete p) ∙ n)
 
 -- ---- the text's first byte 10 stands at a place, or nowhere
 module _ (text : List ℕ) (end : ℕ) (e : end ≡ index_of newline text) where

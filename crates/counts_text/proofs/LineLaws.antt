@@ -53,10 +53,10 @@ module _ (at : ℕ) (line : List ℕ) {most : ℕ} {before of : List ℕ} {answe
   read : NumbersRead most (drop at line) before of answer
   read = rw (part_to_end line at) at part
 
-  pub rest_failed : not answer ≡ true → are_numbers (length before) most (fields (drop at line)) ≡ false
+  pub rest_failed : answer ≡ false → are_numbers (length before) most (fields (drop at line)) ≡ false
   rest_failed n = failed read.form n
 
-  pub rest_passed : not answer ≡ false
+  pub rest_passed : answer ≡ true
       → (are_numbers (length before) most (fields (drop at line)) ≡ true) × (of ≡ upto (number_at (fields (drop at line))) (length before))
   rest_passed n = let form = passed read.form n in (form, read.memory ∙ all_over most (fields (drop at line)) before form)
 

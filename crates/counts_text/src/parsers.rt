@@ -92,7 +92,7 @@ fn begins(text: &[u8], head: &[u8]) -> bool
         return false;
     }
     let end = head.len();
-    text[..end] == *head
+    &text[..end] == head
 }
 
 // The first line of a text, where it is a screen's.
