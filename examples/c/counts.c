@@ -11,8 +11,10 @@ int main(void) {
         return 1;
     }
     cavzemil_counts counts = cavzemil_counts_of(made.screen, CAVZEMIL_DEMICHEL, 128, 128, 0);
+    printf("refusal %" PRIu32 ":", counts.refusal);
     for (int colorant = CAVZEMIL_CYAN; colorant <= CAVZEMIL_WHITE; colorant++) {
-        printf("%" PRIu32 "%c", counts.of[colorant], colorant == CAVZEMIL_WHITE ? '\n' : ' ');
+        printf(" %" PRIu32, counts.of[colorant]);
     }
+    printf("\n");
     return 0;
 }

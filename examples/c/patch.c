@@ -67,8 +67,9 @@ static void print_cells(const uint8_t cells[CELLS]) {
 /* Packs the cells and prints the first row of the yellow plate. */
 static void print_plate(const uint8_t cells[CELLS]) {
     uint8_t planes[8 * PLANE];
-    check(cavzemil_pack(COLUMNS, ROWS, cells, CELLS, planes, sizeof planes));
-    printf("first row of the yellow plate:");
+    uint32_t refusal = cavzemil_pack(COLUMNS, ROWS, cells, CELLS, planes, sizeof planes);
+    check(refusal);
+    printf("first row of the yellow plate (refusal %" PRIu32 "):", refusal);
     for (int byte = 0; byte < PLANE / ROWS; byte++) {
         printf(" %02x", planes[CAVZEMIL_YELLOW * PLANE + byte]);
     }
@@ -85,7 +86,7 @@ static void print_colours(cavzemil_screen screen) {
     printf("second tint's colour: %.3f %.3f %.3f\n", colour.x, colour.y, colour.z);
     primaries[3] = 200.5;
     colour = cavzemil_predict(screen, CAVZEMIL_KUEPPERS, tint[0], tint[1], tint[2], primaries, 24);
-    printf("a bad primary: %s (colorant %" PRIu32 ")\n", cavzemil_refusal_text(colour.refusal), colour.colorant);
+    printf("a bad primary: refusal %" PRIu32 ", colorant %" PRIu32 "\n", colour.refusal, colour.colorant);
 }
 
 /* Prints what the ink of the patch costs. */
@@ -93,7 +94,7 @@ static void print_charge(const uint64_t tallies[8]) {
     cavzemil_prices prices = {.of = {52000, 48000, 45000, 71000, 69000, 66000, 38000, 95000}};
     cavzemil_charge charge = cavzemil_charge_of(prices, tallies, 8);
     check(charge.refusal);
-    printf("ink of the patch: %" PRIu64 " cents\n", charge.cents);
+    printf("ink of the patch (refusal %" PRIu32 "): %" PRIu64 " cents\n", charge.refusal, charge.cents);
 }
 
 /* Renders the patch from a brick and prints all of the above. */

@@ -1,5 +1,5 @@
 """Renders a window of one brick and prints how many cells each ink gets, then asks for a place beyond the sheet. Its output is
-that of rust/examples/window.rs."""
+window.expected."""
 
 from cavzemil import Colorant, Refusal, Screen, Separation, Window
 

@@ -17,7 +17,7 @@ use cavzemil_sys::calls;
 /// let input = [128, 128, 0].repeat(105);
 /// let mut cells = [0; 105];
 /// let mut row = |y| {
-///     let window = Window { y, columns: 105, rows: 1, ..Window::default() };
+///     let window = Window { x: 0, y, columns: 105, rows: 1 };
 ///     screen.render(Separation::Demichel, window, &input, &mut cells)
 /// };
 /// let windows = [row(0)?, row(1)?];
@@ -37,8 +37,5 @@ use cavzemil_sys::calls;
 /// 1,000, and for one of more than 4,294,967,296 cells (rules 11.10, 11.16 and 11.17).
 pub fn charge(prices: [u32; 8], tallies: &[u64]) -> Result<u64, Refusal> {
     let charge = calls::charge_of(prices, tallies);
-    match charge.refusal {
-        6 => Err(Refusal::TalliesLength { found: tallies.len() }),
-        number => served(number, charge.cents),
-    }
+    served(charge.refusal, charge.cents)
 }

@@ -8,6 +8,16 @@ use std::fmt;
 /// ```
 /// use cavzemil::Colorant;
 ///
+/// assert_eq!(Colorant::ALL[3], Colorant::Blue);
+/// assert_eq!(Colorant::Blue.number(), 3);
+/// assert_eq!(Colorant::Blue.to_string(), "blue");
+/// ```
+///
+/// It is also come by from that number:
+///
+/// ```
+/// use cavzemil::Colorant;
+///
 /// assert_eq!(Colorant::try_from(3), Ok(Colorant::Blue));
 /// assert_eq!(u8::from(Colorant::Blue), 3);
 /// assert_eq!(Colorant::ALL[3].to_string(), "blue");

@@ -2,15 +2,18 @@
 
 use crate::refusal::Refusal;
 
-/// What a call writes, and what it answers.
+/// What a call writes, which has the given length where it is served, and what it answers.
 ///
 /// At first the call is lent no room. The library then refuses columns, rows and input (5 and 6) before it
-/// refuses the output's length (rule 11.2), so that room is made only where these pass; how much is needed is
-/// what that refusal expects. A call that writes nothing is served at once.
-pub(crate) fn filled<T>(call: impl Fn(&mut [u8]) -> Result<T, Refusal>) -> Result<(Vec<u8>, T), Refusal> {
+/// refuses the output's length (rule 11.2), so that room is made only where these pass. A call that writes
+/// nothing is served at once.
+pub(crate) fn filled<T>(
+    length: usize,
+    call: impl Fn(&mut [u8]) -> Result<T, Refusal>,
+) -> Result<(Vec<u8>, T), Refusal> {
     match call(&mut []) {
-        Err(Refusal::OutputLength { expected, .. }) => {
-            let mut out = vec![0; expected];
+        Err(Refusal::OutputLength) => {
+            let mut out = vec![0; length];
             let answer = call(&mut out)?;
             Ok((out, answer))
         }
@@ -22,7 +25,7 @@ pub(crate) fn filled<T>(call: impl Fn(&mut [u8]) -> Result<T, Refusal>) -> Resul
 /// nothing but the output's length is refused, or nothing is to be written.
 pub(crate) fn sizes_pass<T>(call: impl FnOnce(&mut [u8]) -> Result<T, Refusal>) -> Result<(), Refusal> {
     match call(&mut []) {
-        Ok(_) | Err(Refusal::OutputLength { .. }) => Ok(()),
+        Ok(_) | Err(Refusal::OutputLength) => Ok(()),
         Err(refusal) => Err(refusal),
     }
 }

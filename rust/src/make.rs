@@ -2,47 +2,9 @@
 //! 19.4).
 
 use crate::refusal::{served, Refusal};
+use crate::Record;
 use cavzemil_sys::calls;
-use cavzemil_sys::ffi::{self, Made};
-
-/// The record of a screen, to be filed; it may hold any eight numbers, and a [`Screen`] is one that is admitted.
-///
-/// It is admitted with the slope a/b, where 1 ≤ a < b ≤ 64 and no number above 1 divides both, the cell count
-/// N from 1 to 4,096, the number of subscreens K from 1 to 16 and never above N, the offset g below N, and
-/// then the columns, rows and shift of the brick that a, b and N give (rules 1.1 to 1.6 and 17.1).
-#[derive(Clone, Copy, Debug, PartialEq, Eq, Hash)]
-pub struct Record {
-    /// The slope's rise.
-    pub a: u32,
-    /// The slope's run.
-    pub b: u32,
-    /// The cell count N.
-    pub n: u32,
-    /// The number of subscreens K.
-    pub k: u32,
-    /// The offset.
-    pub g: u32,
-    /// The brick's columns L.
-    pub columns: u32,
-    /// The brick's rows H.
-    pub rows: u32,
-    /// The brick's shift S.
-    pub shift: u32,
-}
-
-impl Record {
-    /// The record as C takes it.
-    fn to_c(self) -> ffi::Screen {
-        let Record { a, b, n, k, g, columns, rows, shift } = self;
-        ffi::Screen { a, b, n, k, g, columns, rows, shift }
-    }
-
-    /// The record that C answered.
-    fn from_c(screen: ffi::Screen) -> Record {
-        let ffi::Screen { a, b, n, k, g, columns, rows, shift } = screen;
-        Record { a, b, n, k, g, columns, rows, shift }
-    }
-}
+use cavzemil_sys::ffi::Made;
 
 /// A screen: the slope a/b, the cell count N, the number of subscreens K, the offset g, and the columns, rows
 /// and shift of its brick (rule 1.1).
@@ -81,7 +43,7 @@ pub struct Screen {
 
 /// The screen of an answer that isn't refused.
 fn screen(made: Made) -> Result<Screen, Refusal> {
-    served(made.refusal, Screen { record: Record::from_c(made.screen) })
+    served(made.refusal, Screen { record: made.screen })
 }
 
 impl Screen {
@@ -118,7 +80,7 @@ impl Screen {
     /// 4 from N on.
     #[must_use = "a replacement answers another screen, and leaves this one as it was"]
     pub fn with_offset(self, g: u32) -> Result<Screen, Refusal> {
-        screen(calls::replace_offset(self.to_c(), g))
+        screen(calls::replace_offset(self.record, g))
     }
 
     /// The screen with another number of subscreens K, all else as it is (rules 17.3 and 17.5).
@@ -137,7 +99,7 @@ impl Screen {
     /// 3 where K isn't 1 to 16 or is above N.
     #[must_use = "a replacement answers another screen, and leaves this one as it was"]
     pub fn with_subscreens(self, k: u32) -> Result<Screen, Refusal> {
-        screen(calls::replace_subscreens(self.to_c(), k))
+        screen(calls::replace_subscreens(self.record, k))
     }
 
     /// The screen with another cell count N, the columns, rows and shift that follow from it, and the slope,
@@ -159,7 +121,7 @@ impl Screen {
     /// 2 where N isn't 1 to 4,096, 3 where K is above it, 4 where g isn't below it.
     #[must_use = "a replacement answers another screen, and leaves this one as it was"]
     pub fn with_cells(self, n: u32) -> Result<Screen, Refusal> {
-        screen(calls::replace_cells(self.to_c(), n))
+        screen(calls::replace_cells(self.record, n))
     }
 
     /// The screen as it is seen from column x and row y: its phase at (u, v) is that of this one at (x + u,
@@ -191,7 +153,7 @@ impl Screen {
     /// ```
     #[must_use = "the moved screen is the answer, and this one stays as it was"]
     pub fn moved(self, x: u64, y: u64) -> Screen {
-        screen(calls::moved(self.to_c(), x, y)).expect("the library has admitted this screen")
+        screen(calls::moved(self.record, x, y)).expect("the library has admitted this screen")
     }
 
     /// The slope's rise a.
@@ -241,11 +203,6 @@ impl Screen {
     pub fn shift(self) -> u32 {
         self.record.shift
     }
-
-    /// The screen as C takes it.
-    pub(crate) fn to_c(self) -> ffi::Screen {
-        self.record.to_c()
-    }
 }
 
 impl From<Screen> for Record {
@@ -264,6 +221,6 @@ impl TryFrom<Record> for Screen {
     /// 1 to 4 by its first five numbers, and then 15 where the columns, rows and shift aren't theirs (rule
     /// 17.1).
     fn try_from(record: Record) -> Result<Screen, Refusal> {
-        served(calls::brick_of(record.to_c()).refusal, Screen { record })
+        served(calls::brick_of(record).refusal, Screen { record })
     }
 }

@@ -23,11 +23,7 @@ use cavzemil_sys::calls;
 /// 5 where columns or rows are above 65,536, 6 and 7 for the lengths of cells and planes, 9 for a cell above 7
 /// (rules 11.9, 11.10, 11.11 and 11.13).
 pub fn pack(columns: u32, rows: u32, cells: &[u8], planes: &mut [u8]) -> Result<(), Refusal> {
-    match calls::pack(columns, rows, cells, planes) {
-        6 => Err(Refusal::InputLength { expected: lengths::cells(columns, rows), found: cells.len() }),
-        7 => Err(Refusal::OutputLength { expected: lengths::planes(columns, rows), found: planes.len() }),
-        number => served(number, ()),
-    }
+    served(calls::pack(columns, rows, cells, planes), ())
 }
 
 /// Packs cells like [`pack`], and answers the planes. Nothing is allocated where the cells' length is refused.
@@ -40,7 +36,7 @@ pub fn pack(columns: u32, rows: u32, cells: &[u8], planes: &mut [u8]) -> Result<
 /// # Errors
 /// 5 where columns or rows are above 65,536, 6 for the cells' length, 9 for a cell above 7.
 pub fn pack_to_vec(columns: u32, rows: u32, cells: &[u8]) -> Result<Vec<u8>, Refusal> {
-    let (planes, ()) = filled(|planes| pack(columns, rows, cells, planes))?;
+    let (planes, ()) = filled(lengths::planes(columns, rows), |planes| pack(columns, rows, cells, planes))?;
     Ok(planes)
 }
 
@@ -62,11 +58,7 @@ pub fn pack_to_vec(columns: u32, rows: u32, cells: &[u8]) -> Result<Vec<u8>, Ref
 /// 5 where columns or rows are above 65,536, 6 and 7 for the lengths of planes and cells, 9 for a pixel that is
 /// set in no plane or in several, or for padding that is set (rules 11.9, 11.10, 11.11 and 11.13).
 pub fn unpack(columns: u32, rows: u32, planes: &[u8], cells: &mut [u8]) -> Result<(), Refusal> {
-    match calls::unpack(columns, rows, planes, cells) {
-        6 => Err(Refusal::InputLength { expected: lengths::planes(columns, rows), found: planes.len() }),
-        7 => Err(Refusal::OutputLength { expected: lengths::cells(columns, rows), found: cells.len() }),
-        number => served(number, ()),
-    }
+    served(calls::unpack(columns, rows, planes, cells), ())
 }
 
 /// Unpacks planes like [`unpack`], and answers the cells. Nothing is allocated where the planes' length is
@@ -81,7 +73,7 @@ pub fn unpack(columns: u32, rows: u32, planes: &[u8], cells: &mut [u8]) -> Resul
 /// 5 where columns or rows are above 65,536, 6 for the planes' length, 9 for a pixel that is set in no plane or
 /// in several, or for padding that is set.
 pub fn unpack_to_vec(columns: u32, rows: u32, planes: &[u8]) -> Result<Vec<u8>, Refusal> {
-    let (cells, ()) = filled(|cells| unpack(columns, rows, planes, cells))?;
+    let (cells, ()) = filled(lengths::cells(columns, rows), |cells| unpack(columns, rows, planes, cells))?;
     Ok(cells)
 }
 
@@ -100,7 +92,7 @@ pub fn unpack_to_vec(columns: u32, rows: u32, planes: &[u8]) -> Result<Vec<u8>, 
 /// assert_eq!(cyan, Some(&[128 + 32, 0][..]));
 ///
 /// let short = planes(3, 2, &plates[1..]).err();
-/// assert_eq!(short, Some(Refusal::InputLength { expected: 16, found: 15 }));
+/// assert_eq!(short, Some(Refusal::InputLength));
 /// # Ok::<(), Refusal>(())
 /// ```
 ///

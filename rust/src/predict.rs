@@ -29,7 +29,7 @@ impl Screen {
     /// 11, which carries its colorant, where a primary's value isn't 0 to 200 (rule 11.15).
     pub fn predict(self, separation: Separation, inks: Inks, primaries: &[Xyz; 8]) -> Result<Xyz, Refusal> {
         let values: [[f64; 3]; 8] = primaries.map(Xyz::into);
-        let answer = calls::predict(self.to_c(), separation.number(), inks.into(), values.as_flattened());
+        let answer = calls::predict(self.into(), separation.number(), inks.into(), values.as_flattened());
         match answer.refusal {
             11 => Err(Refusal::Primary(Colorant::from_answer(answer.colorant))),
             number => served(number, Xyz { x: answer.x, y: answer.y, z: answer.z }),
@@ -77,10 +77,7 @@ impl Screen {
     /// primaries[1 + 64 - 1][2] = -0.5;
     /// let refusal = predict(&primaries).unwrap_err();
     /// assert_eq!(refusal, Refusal::PrimarySet(65));
-    /// assert_eq!(
-    ///     refusal.to_string(),
-    ///     "a value of a primary is not 0 to 200: set 65 (cyan, black) (refusal 11)"
-    /// );
+    /// assert_eq!(refusal.to_string(), "a value of set 65 (cyan, black) is not 0 to 200 (refusal 11)");
     /// # Ok::<(), Refusal>(())
     /// ```
     ///
@@ -93,10 +90,9 @@ impl Screen {
         inks: Inks,
         primaries: &[f64],
     ) -> Result<Xyz, Refusal> {
-        let answer = calls::predict_cellular(self.to_c(), separation.number(), inks.into(), primaries);
+        let answer = calls::predict_cellular(self.into(), separation.number(), inks.into(), primaries);
         match answer.refusal {
             11 => Err(Refusal::PrimarySet(answer.set.try_into().expect("the library's sets are 1 to 255"))),
-            14 => Err(Refusal::PrimariesLength { expected: 3 * 255, found: primaries.len() }),
             number => served(number, Xyz { x: answer.x, y: answer.y, z: answer.z }),
         }
     }

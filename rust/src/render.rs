@@ -5,7 +5,7 @@ use crate::lengths;
 use crate::make::Screen;
 use crate::refusal::{served, Refusal};
 use crate::separation::Separation;
-use crate::window::Window;
+use crate::Window;
 use cavzemil_sys::calls;
 use cavzemil_sys::ffi::Rendering;
 
@@ -19,13 +19,8 @@ pub struct Rendered {
 }
 
 /// The tallies of a rendering that isn't refused.
-fn tallies(rendering: Rendering, window: Window, input: &[u8], out: &[u8]) -> Result<[u64; 8], Refusal> {
-    let Window { columns, rows, .. } = window;
-    match rendering.refusal {
-        6 => Err(Refusal::InputLength { expected: lengths::inks(columns, rows), found: input.len() }),
-        7 => Err(Refusal::OutputLength { expected: lengths::cells(columns, rows), found: out.len() }),
-        number => served(number, rendering.tallies),
-    }
+fn tallies(rendering: Rendering) -> Result<[u64; 8], Refusal> {
+    served(rendering.refusal, rendering.tallies)
 }
 
 impl Screen {
@@ -59,8 +54,7 @@ impl Screen {
         input: &[u8],
         out: &mut [u8],
     ) -> Result<[u64; 8], Refusal> {
-        let rendering = calls::render(self.to_c(), separation.number(), window.to_c(), input, out);
-        tallies(rendering, window, input, out)
+        tallies(calls::render(self.into(), separation.number(), window, input, out))
     }
 
     /// Renders a window like [`Screen::render`], phases read from a brick buffer that
@@ -75,7 +69,8 @@ impl Screen {
     /// let screen = Screen::new(4, 7, 70, 3, 5)?;
     /// let window = Window { x: 11, y: 3, columns: 4, rows: 2 };
     /// let input = [51, 102, 204].repeat(8);
-    /// let brick = screen.brick_to_vec();
+    /// let mut brick = [0; 70];
+    /// screen.fill_brick(&mut brick)?;
     /// let mut read = [0; 8];
     /// let tallies = screen.render_brick(Separation::Kueppers, window, &input, &brick, &mut read)?;
     ///
@@ -96,13 +91,7 @@ impl Screen {
         brick: &[u16],
         out: &mut [u8],
     ) -> Result<[u64; 8], Refusal> {
-        let number = separation.number();
-        let rendering = calls::render_brick(self.to_c(), number, window.to_c(), input, brick, out);
-        let places = self.n() as usize;
-        match rendering.refusal {
-            8 if brick.len() < places => Err(Refusal::BrickLength { expected: places, found: brick.len() }),
-            _ => tallies(rendering, window, input, out),
-        }
+        tallies(calls::render_brick(self.into(), separation.number(), window, input, brick, out))
     }
 
     /// Renders a window like [`Screen::render`], and answers its cells too. Nothing is allocated for a call that
@@ -119,7 +108,7 @@ impl Screen {
     /// assert_eq!(tallies, [1, 1, 0, 0, 0, 0, 0, 1]);
     ///
     /// let short = screen.render_to_vec(Separation::Kueppers, window, &input[1..]);
-    /// assert_eq!(short, Err(Refusal::InputLength { expected: 9, found: 8 }));
+    /// assert_eq!(short, Err(Refusal::InputLength));
     /// # Ok::<(), Refusal>(())
     /// ```
     ///
@@ -131,7 +120,8 @@ impl Screen {
         window: Window,
         input: &[u8],
     ) -> Result<Rendered, Refusal> {
-        let (cells, tallies) = filled(|out| self.render(separation, window, input, out))?;
+        let length = lengths::cells(window.columns, window.rows);
+        let (cells, tallies) = filled(length, |out| self.render(separation, window, input, out))?;
         Ok(Rendered { cells, tallies })
     }
 
@@ -148,7 +138,9 @@ impl Screen {
         input: &[u8],
         brick: &[u16],
     ) -> Result<Rendered, Refusal> {
-        let (cells, tallies) = filled(|out| self.render_brick(separation, window, input, brick, out))?;
+        let length = lengths::cells(window.columns, window.rows);
+        let (cells, tallies) =
+            filled(length, |out| self.render_brick(separation, window, input, brick, out))?;
         Ok(Rendered { cells, tallies })
     }
 }

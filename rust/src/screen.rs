@@ -36,7 +36,7 @@ impl Screen {
     /// # Errors
     /// 5 beyond the sheet.
     pub fn phase_at(self, x: u32, y: u32) -> Result<u32, Refusal> {
-        let place = calls::phase_at(self.to_c(), x, y);
+        let place = calls::phase_at(self.into(), x, y);
         served(place.refusal, place.phase)
     }
 
@@ -65,18 +65,14 @@ impl Screen {
     /// let mut brick = [99; 7];
     /// screen.fill_brick(&mut brick)?;
     /// assert_eq!(brick, [5, 1, 3, 2, 4, 0, 99]);
-    /// let short = screen.fill_brick(&mut brick[..5]);
-    /// assert_eq!(short, Err(Refusal::BrickLength { expected: 6, found: 5 }));
+    /// assert_eq!(screen.fill_brick(&mut brick[..5]), Err(Refusal::Brick));
     /// # Ok::<(), cavzemil::Refusal>(())
     /// ```
     ///
     /// # Errors
     /// 8 below N places.
     pub fn fill_brick(self, brick: &mut [u16]) -> Result<(), Refusal> {
-        match calls::fill_brick(self.to_c(), brick) {
-            8 => Err(Refusal::BrickLength { expected: self.n() as usize, found: brick.len() }),
-            number => served(number, ()),
-        }
+        served(calls::fill_brick(self.into(), brick), ())
     }
 
     /// A brick buffer of N places, filled like [`Screen::fill_brick`] does. Never refused.
@@ -107,7 +103,7 @@ impl Screen {
     /// ```
     #[must_use]
     pub fn counts(self, separation: Separation, inks: Inks) -> [u32; 8] {
-        let counts = calls::counts_of(self.to_c(), separation.number(), inks.into());
+        let counts = calls::counts_of(self.into(), separation.number(), inks.into());
         served(counts.refusal, counts.of).expect("the library has admitted this screen")
     }
 
@@ -126,7 +122,7 @@ impl Screen {
     /// # Errors
     /// 5 beyond the sheet.
     pub fn cell_at(self, separation: Separation, x: u32, y: u32, inks: Inks) -> Result<Colorant, Refusal> {
-        let cell = calls::cell_at(self.to_c(), separation.number(), x, y, inks.into());
+        let cell = calls::cell_at(self.into(), separation.number(), x, y, inks.into());
         served(cell.refusal, Colorant::from_answer(cell.colorant))
     }
 }

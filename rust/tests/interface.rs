@@ -38,27 +38,22 @@ fn every_refusal_has_its_number() {
     check(Screen::new(4, 7, 70, 3, 70), Refusal::Offset, 4);
     check(screen().phase_at(65_536, 0), Refusal::OffSheet, 5);
     check(screen().cell_at(Separation::Demichel, 0, 65_536, INKS), Refusal::OffSheet, 5);
-    let long = screen().render(Separation::Demichel, LONE, &[0; 4], &mut [0]);
-    check(long, Refusal::InputLength { expected: 3, found: 4 }, 6);
-    let short = screen().render(Separation::Demichel, LONE, &[0; 3], &mut []);
-    check(short, Refusal::OutputLength { expected: 1, found: 0 }, 7);
-    let short_brick = Refusal::BrickLength { expected: 70, found: 69 };
-    check(screen().fill_brick(&mut [0; 69]), short_brick, 8);
+    check(screen().render(Separation::Demichel, LONE, &[0; 4], &mut [0]), Refusal::InputLength, 6);
+    check(screen().render(Separation::Demichel, LONE, &[0; 3], &mut []), Refusal::OutputLength, 7);
+    check(screen().fill_brick(&mut [0; 69]), Refusal::Brick, 8);
     let short = screen().render_brick(Separation::Demichel, LONE, &[0; 3], &[0; 69], &mut [0]);
-    check(short, short_brick, 8);
-    let wrong = screen().render_brick(Separation::Demichel, LONE, &[0; 3], &[0; 70], &mut [0]);
-    check(wrong, Refusal::BrickPhase, 8);
+    check(short, Refusal::Brick, 8);
     check(pack(1, 1, &[8], &mut [0; 8]), Refusal::Plates, 9);
     check(unpack(1, 1, &[64, 0, 0, 0, 0, 0, 0, 0], &mut [0]), Refusal::Plates, 9);
     let mut primaries = [Xyz { x: 1.0, y: 2.0, z: 3.0 }; 8];
     primaries[6].z = f64::NAN;
     let bad = screen().predict(Separation::Kueppers, INKS, &primaries);
     check(bad, Refusal::Primary(Colorant::Black), 11);
-    check(charge([0; 8], &[0; 7]), Refusal::TalliesLength { found: 7 }, 6);
+    check(charge([0; 8], &[0; 7]), Refusal::InputLength, 6);
     check(charge([0, 0, 0, 0, 0, 0, 0, 1_000_001], &[0; 8]), Refusal::Price, 12);
     check(charge([0; 8], &[]), Refusal::Job, 13);
     let short = screen().predict_cellular(Separation::Kueppers, INKS, &[0.0; 764]);
-    check(short, Refusal::PrimariesLength { expected: 765, found: 764 }, 14);
+    check(short, Refusal::PrimariesLength, 14);
     check(Screen::try_from(Record { shift: 21, ..RECORD }), Refusal::Stored, 15);
 }
 
@@ -116,7 +111,7 @@ fn every_number_of_a_screen_is_told() {
 #[test]
 fn every_refusal_of_a_cellular_prediction_arrives() {
     let call = |primaries: &[f64]| screen().predict_cellular(Separation::Demichel, INKS, primaries);
-    check(call(&[-1.0; 24]), Refusal::PrimariesLength { expected: 765, found: 24 }, 14);
+    check(call(&[-1.0; 24]), Refusal::PrimariesLength, 14);
     for set in 1..=255 {
         let mut primaries = [200.0; 765];
         primaries[3 * usize::from(set) - 1..].fill(-1.0);
@@ -124,12 +119,30 @@ fn every_refusal_of_a_cellular_prediction_arrives() {
     }
 }
 
-/// Rule 16.2.
+/// Rule 16.2: a refusal names the colorants of its set.
 #[test]
 fn sets_are_told_by_their_colorants() {
+    let words = |set| Refusal::PrimarySet(set).to_string();
+    assert_eq!(words(128), "a value of set 128 (white) is not 0 to 200 (refusal 11)");
+    assert_eq!(words(42), "a value of set 42 (magenta, blue, red) is not 0 to 200 (refusal 11)");
     for set in 1..=255 {
         assert_eq!(Colorant::of_set(set).map(|colorant| 1 << colorant.number()).sum::<u8>(), set);
     }
+}
+
+/// Rule 4.2.
+#[test]
+fn every_colorant_stands_at_its_number() {
+    for (number, colorant) in Colorant::ALL.iter().enumerate() {
+        assert_eq!(usize::from(colorant.number()), number);
+    }
+}
+
+/// Rule 11.12: a wrong phase is refused as a short buffer is.
+#[test]
+fn a_wrong_phase_is_refused_by_the_renderer() {
+    let wrong = screen().render_brick(Separation::Demichel, LONE, &[0; 3], &[0; 70], &mut [0]);
+    check(wrong, Refusal::Brick, 8);
 }
 
 /// Rule 19.2.

@@ -29,8 +29,8 @@ fn what_calls_take_and_refuse_are_keys() {
     check_keys(&[[0, 0, 1], [0, 1, 0], [1, 0, 0]].map(Inks::from));
     let window = Window::default();
     check_keys(&[window, Window { x: 1, ..window }, Window { rows: 1, ..window }]);
-    let short = |found| Refusal::InputLength { expected: 3, found };
-    check_keys(&[short(1), short(2), Refusal::Slope, Refusal::Primary(Colorant::Red)]);
+    let [red, black] = [Colorant::Red, Colorant::Black].map(Refusal::Primary);
+    check_keys(&[Refusal::Slope, Refusal::InputLength, red, black, Refusal::PrimarySet(6)]);
 }
 
 /// Colorants and separations are ordered by their numbers, inks by c, then m, then y.

@@ -33,22 +33,43 @@ fn lengths_are_exact_up_to_the_sheet() {
     }
 }
 
-/// The length that a refusal expects is the one that the library takes: a call is refused for a run of another
-/// length, and it expects the length of the functions.
+/// A call takes runs of the given lengths, and of others it takes none: each is made a byte longer and, where it
+/// has any, a byte shorter.
+fn check_lengths(input: usize, output: usize, call: impl Fn(&[u8], &mut [u8]) -> Result<(), Refusal>) {
+    let (read, mut written) = (vec![0; input + 1], vec![0; output + 1]);
+    assert_eq!(call(&read[..input], &mut written[..output]), Ok(()));
+    for other in [input.checked_sub(1), Some(input + 1)].into_iter().flatten() {
+        assert_eq!(call(&read[..other], &mut written[..output]), Err(Refusal::InputLength));
+    }
+    for other in [output.checked_sub(1), Some(output + 1)].into_iter().flatten() {
+        assert_eq!(call(&read[..input], &mut written[..other]), Err(Refusal::OutputLength));
+    }
+}
+
+/// The lengths of the functions are those that calls need, and a call is refused for a run of another length, also
+/// for such windows as there is no memory for.
 #[test]
-fn refusals_expect_the_lengths_that_are_needed() {
-    let expected = |answer: Result<(), Refusal>| match answer {
-        Err(Refusal::InputLength { expected, .. }) => expected,
-        other => panic!("{other:?}"),
-    };
+fn lengths_are_those_that_calls_need() -> Result<(), Refusal> {
     for (columns, rows) in sizes().filter(|(columns, rows)| cells_len(*columns, *rows).is_ok()) {
         let window = Window { columns, rows, ..Window::default() };
+        let (cells, planes) = (cells_len(columns, rows)?, planes_len(columns, rows)?);
+        let render = |input: &[u8], out: &mut [u8]| screen().render(Separation::Demichel, window, input, out);
         let surplus = [0; 99_999];
-        let rendered = screen().render(Separation::Demichel, window, &surplus, &mut []).map(drop);
-        assert_eq!(Ok(expected(rendered)), input_len(columns, rows));
-        assert_eq!(Ok(expected(pack(columns, rows, &surplus, &mut []))), cells_len(columns, rows));
-        assert_eq!(Ok(expected(unpack(columns, rows, &surplus, &mut []))), planes_len(columns, rows));
+        assert_eq!(render(&surplus, &mut []), Err(Refusal::InputLength));
+        assert_eq!(pack(columns, rows, &surplus, &mut []), Err(Refusal::InputLength));
+        assert_eq!(unpack(columns, rows, &surplus, &mut []), Err(Refusal::InputLength));
+        if cells <= 9 * 65_536 {
+            check_lengths(input_len(columns, rows)?, cells, |input, out| render(input, out).map(drop));
+            check_lengths(cells, planes, |cells, out| pack(columns, rows, cells, out));
+            let plates = pack_to_vec(columns, rows, &vec![0; cells])?;
+            check_lengths(planes, cells, |read, out| {
+                // Of the right length these are plates; of another one they are refused before their bits are read.
+                let plates = if read.len() == planes { &plates } else { read };
+                unpack(columns, rows, plates, out)
+            });
+        }
     }
+    Ok(())
 }
 
 /// The refusal of a call that was lent no output, but for that of the output itself.

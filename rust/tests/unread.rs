@@ -6,10 +6,9 @@
 //! Such memory may not be read here: whoever does is stopped by the system with signal 11, and this test
 //! program with it. So it is a program of its own.
 
-use cavzemil::{charge, Inks, Screen, Separation, Xyz};
+use cavzemil::ffi::{cavzemil_charge_of, cavzemil_predict_cellular, Cellular, Charge, Prices};
+use cavzemil::{charge, Inks, Record, Screen, Separation, Xyz};
 use cavzemil_plain::{charge_of, predict_cellular, random::Random};
-use cavzemil_sys::calls::make_screen;
-use cavzemil_sys::ffi::{cavzemil_charge_of, cavzemil_predict_cellular, Cellular, Charge, Prices};
 use std::ffi::{c_int, c_long, c_void};
 use std::ptr::null_mut;
 use std::slice;
@@ -147,17 +146,19 @@ fn nothing_beside_a_run_is_read() {
     }
 }
 
+/// The record of a screen that is admitted.
+const RECORD: Record = Record { a: 4, b: 7, n: 105, k: 2, g: 0, columns: 105, rows: 1, shift: 77 };
+
 /// Rule 11.18: lengths about 765, far beyond it, and such as are 765 in 16 or in 32 bits.
 #[test]
 fn primaries_of_another_length_are_not_read() {
     let memory = Closed::new(LONGEST);
-    let screen = make_screen(4, 7, 105, 2, 0).screen;
     let far = [(1 << 16) + 765, 1 << 32, (1 << 32) + 765, (8 << 32) + 765, LONGEST];
     for length in [0, 1, 24, 255, 762, 764, 766, 768, 1530].into_iter().chain(far) {
         for separation in [0, 1] {
             // SAFETY: the run is as long as it is said to be.
             let answer =
-                unsafe { cavzemil_predict_cellular(screen, separation, 1, 2, 3, memory.start, length) };
+                unsafe { cavzemil_predict_cellular(RECORD, separation, 1, 2, 3, memory.start, length) };
             assert_eq!(answer, Cellular { refusal: 14, set: 0, x: 0.0, y: 0.0, z: 0.0 });
         }
     }
@@ -167,7 +168,7 @@ fn primaries_of_another_length_are_not_read() {
 #[test]
 fn nothing_beside_primaries_is_read() {
     let mut random = Random::new(82);
-    let screen = Screen::new(4, 7, 105, 2, 0).expect("the screen is admitted");
+    let screen = Screen::try_from(RECORD).expect("the record is true");
     let plain_screen = cavzemil_plain::make_screen(4, 7, 105, 2, 0).screen;
     for first in [0, 2 * PAGE - 765] {
         let mut memory = Closed::new(4 * PAGE);

@@ -42,9 +42,10 @@ pub struct Made {
 }
 
 /// A window of the sheet: its corner, and its columns and rows, which may be 0. The sheet has 65,536
-/// columns, from the left, and as many rows, from the top (rules 2.1 and 7.1).
+/// columns, from the left, and as many rows, from the top (rules 2.1 and 7.1). By default a window is empty and
+/// at the sheet's corner.
 #[repr(C)]
-#[derive(Clone, Copy, Debug, PartialEq, Eq, Hash)]
+#[derive(Clone, Copy, Debug, Default, PartialEq, Eq, Hash)]
 pub struct Window {
     /// The first column.
     pub x: u32,
