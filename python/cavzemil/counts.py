@@ -4,7 +4,6 @@ from __future__ import annotations
 
 import os
 import re
-import signal
 from collections.abc import Iterator
 from contextlib import suppress
 
@@ -101,6 +100,5 @@ def _write(text: bytes) -> None:
 
 
 def run() -> None:
-    """Reads, answers and writes, as the program does (rules 10.1 and 10.9): a pipe that nobody reads ends it quietly."""
-    signal.signal(signal.SIGPIPE, signal.SIG_DFL)
+    """Reads, answers and writes, as the program does (rules 10.1 and 10.9): where nobody reads what it writes, it ends quietly."""
     _write(answer(_read()))

@@ -1,7 +1,6 @@
 """The package as a program, beside the proved program where that has the same to do."""
 
 import os
-import signal
 import subprocess
 import sys
 import tempfile
@@ -77,5 +76,5 @@ class Streams(unittest.TestCase):
         for command in BOTH:
             reading, writing = os.pipe()
             os.close(reading)
-            self.assertEqual(run(command, GOOD, stdout=writing), (-signal.SIGPIPE, None, b""))
+            self.assertEqual(run(command, GOOD, stdout=writing), (0, None, b""))
             os.close(writing)

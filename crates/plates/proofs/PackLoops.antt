@@ -1,6 +1,6 @@
 -- The loops of packing, over plain numbers and lists: a word is added up cell by cell, stored byte by byte, and the planes are filled place by place.
 -- Assumes nothing.
-use Prim.Native.Nat.{ℕ, ◌+◌, ◌*◌, ◌/◌, ◌%◌, ◌^◌, ◌≤◌, ◌<◌}
+use Prim.Native.Nat.{ℕ, ◌+◌, ◌*◌, ◌/◌, ◌%◌, ◌^◌, ◌≤◌, ◌<◌, max}
 use mathlib.Core.Path.{◌≡◌, refl, sym, ap, subst, ◌∙◌}
 use mathlib.Core.Bool.{◌&&◌, cond, and-false}
 use mathlib.Core.List.{List}
@@ -43,19 +43,31 @@ module _ {cells : List ℕ} {highest i : ℕ} (s : HighestAt cells highest i) wh
   highest_next h l e = record { within = omega arith; tells = rw (add-one i, ← s.tells) e }
 
   -- the next cell is higher, or it is not
-  pub highest_raised : i < length cells → highest < get_or cells i 0 → HighestAt cells (get_or cells i 0) (i + 1)
+  highest_raised : i < length cells → highest < get_or cells i 0 → HighestAt cells (get_or cells i 0) (i + 1)
   highest_raised l h = highest_next _ l (go (dec_le (get_or cells i 0) 7))
     where
       go : Dec (get_or cells i 0 ≤ 7) → leb (get_or cells i 0) 7 ≡ leb highest 7 && leb (get_or cells i 0) 7
       go (yes k) = rw (le-leb highest 7 (omega arith)) refl
       go (no k) = rw (lt-leb (get_or cells i 0) 7 (omega arith)) (sym (and-false (leb highest 7)))
 
-  pub highest_kept : i < length cells → get_or cells i 0 ≤ highest → HighestAt cells highest (i + 1)
+  highest_kept : i < length cells → get_or cells i 0 ≤ highest → HighestAt cells highest (i + 1)
   highest_kept l h = highest_next _ l (go (dec_le highest 7))
     where
       go : Dec (highest ≤ 7) → leb highest 7 ≡ leb highest 7 && leb (get_or cells i 0) 7
       go (yes k) = rw (le-leb highest 7 k, le-leb (get_or cells i 0) 7 (omega arith)) refl
       go (no k) = rw (lt-leb highest 7 (omega arith)) refl
+
+  -- either way it is the greater of the two
+  pub highest_step : (h : ℕ) → i < length cells → h ≡ max highest (get_or cells i 0) → HighestAt cells h (i + 1)
+  highest_step h l e = go (dec_le (get_or cells i 0) highest)
+    where
+      go : Dec (get_or cells i 0 ≤ highest) → HighestAt cells h (i + 1)
+      go (yes k) =
+          let same : h ≡ highest = omega arith in
+          rw same (highest_kept l k)
+      go (no k) =
+          let same : h ≡ get_or cells i 0 = omega arith in
+          rw same (highest_raised l (omega arith))
 
   pub highest_end : length cells ≤ i → leb highest 7 ≡ colorants_only cells
   unfolding colorants_only

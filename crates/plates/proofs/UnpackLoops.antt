@@ -145,12 +145,21 @@ row_part plane planes start b {out₀} {out} s pixels part few room e =
 
 module _ (columns rows : ℕ) where
   -- all rows but the last have room for eight pixels at their last place, where two rows have it,
-  pub roomy_most : {roomy : ℕ} → 8 * row_bytes columns ≤ 2 * columns → roomy ≡ rows - 1 → Roomy columns rows roomy (8 * row_bytes columns)
+  roomy_most : {roomy : ℕ} → 8 * row_bytes columns ≤ 2 * columns → roomy ≡ rows - 1 → Roomy columns rows roomy (8 * row_bytes columns)
   roomy_most wide e =
       record { within = omega arith; least = omega arith; most = omega arith; room = λ y l. omega (arith, row_ends rows columns (y + 1) (omega arith)) }
 
-  pub roomy_none : {roomy : ℕ} → roomy ≡ 0 → Roomy columns rows roomy (8 * row_bytes columns)
+  roomy_none : {roomy : ℕ} → roomy ≡ 0 → Roomy columns rows roomy (8 * row_bytes columns)
   roomy_none e = record { within = omega arith; least = omega arith; most = omega arith; room = λ y l. absurd (omega arith) }
+
+  -- so that they may be written first, or none of them
+  pub roomy_told : (roomy : ℕ) → (0 < roomy → 8 * row_bytes columns ≤ 2 * columns) → (0 < roomy → roomy ≡ rows - 1)
+      → Roomy columns rows roomy (8 * row_bytes columns)
+  roomy_told roomy wide many = go (dec_lt 0 roomy)
+    where
+      go : Dec (0 < roomy) → Roomy columns rows roomy (8 * row_bytes columns)
+      go (yes some) = roomy_most (wide some) (many some)
+      go (no none) = roomy_none (omega arith)
 
   -- and each has room for its columns
   pub roomy_own : Roomy columns rows rows columns

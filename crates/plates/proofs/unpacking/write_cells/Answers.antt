@@ -1,9 +1,8 @@
 -- `plates::unpacking::write_cells` meets its contract: the rows that have room, and then the others (UnpackLoops). Assumes nothing.
 use mathlib.Core.Path.{sym, ◌∙◌}
 use native.Mathlib.Omega.{arith}
-use Rattle.plates.proofs.UnpackLoops.{roomy_most, roomy_none, roomy_own, written_start, written_fewer, written_end}
+use Rattle.plates.proofs.UnpackLoops.{roomy_told, roomy_own, written_start, written_fewer, written_end}
 use Rattle.plates.proofs.unpacking.write_cells.Goals as goal
-use Rattle.plates.proofs.unpacking.write_cells.Goals.{then-columns-ge8, else-columns-ge8}
 
 pub returns-then-rows-eq0 : goal.returns-then-rows-eq0
 returns-then-rows-eq0 c = written_end (written_start _ c.requires.1) (rw c.if-rows-eq0.true (omega arith))
@@ -21,10 +20,7 @@ pub write_rows-requires : goal.write_rows-requires
 write_rows-requires c =
     rw c.row_bytes-whole.ensures (
       c.requires.0,
-      elim c.if-columns-ge8.branch [
-        | then-columns-ge8 w ↦ roomy_most _ _ (omega (arith, w.if-columns-ge8.true)) (omega (arith, w.roomy-is))
-        | else-columns-ge8 w ↦ roomy_none _ _ w.roomy-is
-      ],
+      roomy_told _ _ _ (λ some. grind arith) (λ some. grind arith),
       written_fewer (written_start _ c.requires.1) _ (omega arith),
     )
 

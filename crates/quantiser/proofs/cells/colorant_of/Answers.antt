@@ -1,12 +1,11 @@
 -- `quantiser::cells::colorant_of` meets its contract: the loop adds up the tests. Assumes nothing.
-use mathlib.Core.Path.{◌≡◌, refl, ap, ◌∙◌}
+use mathlib.Core.Path.{◌≡◌, refl, ◌∙◌}
 use native.Mathlib.Numerals.{add-one}
 use native.Mathlib.Omega.{arith}
-use borrow.Author.Tests.{lt-ltb, le-ltb}
-use Rattle.arith.specs.Sum.{sum_below, indicator}
+use Rattle.std.proofs.lemmas.Bool.Decides.{nat_tests}
+use Rattle.arith.specs.Sum.{sum_below}
 use Rattle.quantiser.specs.Leaves.{rank}
 use Rattle.quantiser.proofs.cells.colorant_of.Goals as goal
-use Rattle.quantiser.proofs.cells.colorant_of.Goals.{then-levels-j, else-levels-j}
 
 pub loop-j-init : goal.loop-j-init
 unfolding sum_below
@@ -14,12 +13,7 @@ loop-j-init c = (omega arith, omega arith, refl)
 
 pub loop-j-preserved : goal.loop-j-preserved
 unfolding sum_below
-loop-j-preserved c =
-    let inv = c.loop-j.invariant in
-    elim c.if-levels-j.branch [
-      | then-levels-j w ↦ rw (w.colorant-is, add-one c.loop-j.j) (omega arith, omega arith, omega (arith, inv.2, ap indicator (lt-ltb _ _ w.if-levels-j.true)))
-      | else-levels-j w ↦ rw (w.colorant-is, add-one c.loop-j.j) (omega arith, omega arith, omega (arith, inv.2, ap indicator (le-ltb _ _ w.if-levels-j.false)))
-    ]
+loop-j-preserved c = rw (add-one c.loop-j.j) (omega arith, grind arith, grind (arith, nat_tests))
 
 pub returns : goal.returns
 unfolding rank

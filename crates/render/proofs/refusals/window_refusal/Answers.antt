@@ -2,7 +2,7 @@
 -- Assumes nothing.
 use mathlib.Core.Path.{sym, ◌∙◌}
 use native.Mathlib.Omega.{arith}
-use Rattle.render.proofs.RefusalLaws.{area_limit, window_screen, window_right, window_down, window_input, window_output, window_whole}
+use Rattle.render.proofs.RefusalLaws.{area_limit, window_screen, window_right, window_down, window_input}
 use Rattle.render.proofs.refusals.window_refusal.Goals as goal
 
 pub returns-then-refused-ne0 : goal.returns-then-refused-ne0
@@ -27,11 +27,3 @@ overflow_mul-cells-2 c = omega (arith, area_limit _ _ _ _ c.if-w-columns-gt65536
 pub returns-then-inputs-cells : goal.returns-then-inputs-cells
 returns-then-inputs-cells c =
     window_input _ _ _ _ (sym c.refusal-refused.ensures ∙ c.if-refused-ne0.false) c.if-w-columns-gt65536.false c.if-w-rows-gt65536.false c.if-inputs-cells.true
-
-pub returns-then-outputs-cells : goal.returns-then-outputs-cells
-returns-then-outputs-cells c =
-    window_output _ _ _ _ (sym c.refusal-refused.ensures ∙ c.if-refused-ne0.false) c.if-w-columns-gt65536.false c.if-w-rows-gt65536.false c.if-inputs-cells.false c.if-outputs-cells.true
-
-pub returns : goal.returns
-returns c =
-    window_whole _ _ _ _ (sym c.refusal-refused.ensures ∙ c.if-refused-ne0.false) c.if-w-columns-gt65536.false c.if-w-rows-gt65536.false c.if-inputs-cells.false c.if-outputs-cells.false
