@@ -51,6 +51,7 @@ pub extern "C" fn cavzemil_counts_of(s: Screen, separation: u32, c: u8, m: u8, y
 // The colour that a screen's cells give together for one ink triple. The primaries are 24 values, X, Y
 // and Z of each colorant in turn. Of another number of values the screen is tested here, and otherwise by
 // `predict`.
+#[tactic(auto, using(crate::proofs::PredictionLaws::prediction_unknown, crate::proofs::PredictionLaws::prediction_screen, crate::proofs::PredictionLaws::prediction_length, crate::proofs::PredictionLaws::prediction_ruled))]
 #[unsafe(no_mangle)]
 pub extern "C" fn cavzemil_predict(
     s: Screen,

@@ -13,3 +13,4 @@ mod FirstLine
 mod CountsLoop
 mod Fits
 mod ProgramLaws
+mod OutputLaws

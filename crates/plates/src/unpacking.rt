@@ -50,6 +50,7 @@ fn planes_sound(columns: usize, rows: usize, planes: &[u8]) -> bool
 // without an early end, so that the compiler tests many at once: as many must pass as the columns have
 // eights. A last place of fewer pixels is tested by itself; if it is as it should be, it is not among those
 // that passed.
+#[tactic(auto, using(crate::proofs::UnpackLoops::full_end, crate::proofs::UnpackLoops::full_last))]
 fn row_sound(columns: usize, plane: usize, planes: &[u8], start: usize) -> bool
     requires { (columns ≤ 65536) × (start + row_bytes columns ≤ plane) × (length planes.now ≡ 8 * plane) }
     ensures { result ≡ row_once columns plane planes.now start }

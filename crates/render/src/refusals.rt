@@ -9,7 +9,7 @@ use crate::Window;
 use screen::Screen;
 
 // The lowest refusal of a window with so many bytes of input and output, or 0.
-#[tactic(auto, using(crate::proofs::RefusalLaws::window_output, crate::proofs::RefusalLaws::window_whole))]
+#[tactic(auto, using(crate::proofs::RefusalLaws::window_screen, crate::proofs::RefusalLaws::window_right, crate::proofs::RefusalLaws::window_down, crate::proofs::RefusalLaws::window_input, crate::proofs::RefusalLaws::window_output, crate::proofs::RefusalLaws::window_whole))]
 pub(crate) fn window_refusal(s: Screen, w: Window, inputs: usize, outputs: usize) -> u32
     ensures { result ≡ window_refusal s w inputs outputs }
 {

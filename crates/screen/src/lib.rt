@@ -66,7 +66,7 @@ pub(crate) fn numbers_refusal(a: u32, b: u32, n: u32, k: u32, g: u32) -> u32
     0
 }
 
-#[tactic(auto, using(std::proofs::lemmas::Grind::common_steps), unfolding(crate::specs::Screens::slope_admitted))]
+#[tactic(auto, using(arith::proofs::GcdLaws::gcd_flipped, std::proofs::lemmas::Grind::common_steps), unfolding(crate::specs::Screens::slope_admitted))]
 fn slope_admitted(a: u32, b: u32) -> bool
     ensures { result ≡ slope_admitted a b }
 {

@@ -8,6 +8,7 @@ use crate::{Screen, refusal};
 
 // The screen whose phase at each place is that of the screen that is handed in, x columns further to the
 // right and y rows further down; or the screen that was handed in.
+#[tactic(auto, using(crate::proofs::CornerLaws::moved_old, crate::proofs::CornerLaws::moved_served))]
 pub fn moved(s: Screen, x: u64, y: u64) -> Made
     ensures { result ≡ moved_to s x y }
 {

@@ -30,6 +30,7 @@ pub fn phase_at(s: Screen, x: u32, y: u32) -> Place
 }
 
 // The refusal of a place: that of the screen, else 5 where the place is off the sheet.
+#[tactic(auto, using(crate::proofs::Refusals::place_refused, crate::proofs::Refusals::column_off, crate::proofs::Refusals::row_off, crate::proofs::Refusals::place_on))]
 fn place_refusal(s: Screen, x: u32, y: u32) -> u32
     ensures { result ≡ place_refusal s x y }
 {

@@ -2,7 +2,7 @@
 -- Assumes nothing.
 use mathlib.Core.Path.{sym, ◌∙◌}
 use native.Mathlib.Omega.{arith}
-use Rattle.plates.proofs.UnpackLoops.{full_start, full_few, full_more, full_kept, full_end, full_last}
+use Rattle.plates.proofs.UnpackLoops.{full_start, full_few, full_more, full_kept}
 use Rattle.plates.proofs.unpacking.row_sound.Goals as goal
 use Rattle.plates.proofs.unpacking.row_sound.Goals.{then-once_at, else-once_at}
 
@@ -31,14 +31,3 @@ loop-b-preserved c =
 
 pub overflow_cast-sound : goal.overflow_cast-sound
 overflow_cast-sound c = omega (arith, full_few c.loop-b.invariant, c.loop-b.invariant.within, c.requires.0)
-
-pub returns-then-pixels-eq0 : goal.returns-then-pixels-eq0
-returns-then-pixels-eq0 c =
-    full_end c.loop-b.invariant (rw (← c.row_bytes-b-end.ensures) c.loop-b-test.false) (omega (arith, c.if-pixels-eq0.true))
-
-pub once_at-requires-2 : goal.once_at-requires-2
-once_at-requires-2 c = (omega arith, omega (arith, c.requires.1, c.if-pixels-eq0.false), c.requires.2)
-
-pub returns : goal.returns
-returns c =
-    full_last c.loop-b.invariant (rw (← c.row_bytes-b-end.ensures) c.loop-b-test.false) c.if-pixels-eq0.false c.once_at-2.ensures
