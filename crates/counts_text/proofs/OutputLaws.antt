@@ -24,10 +24,7 @@ promised text before after r room w =
 pub fitting : (text run memory : List ℕ) → run ≡ counts_text text → length memory ≡ 16384 → length run ≤ length memory
 fitting text run memory e room = rw e (omega (arith, output_fits text, room))
 
--- ---- a text that is too long is answered by a line
-pub long_line : (text : List ℕ) → 65536 < length text → counts_text text ≡ error_line 0 10
-long_line text long = sym (too_long text long)
-
+-- and the memory holds what is promised of the line that answers a text which is too long
 pub long_fits : (text before after : List ℕ) (r : ℕ) → 65536 < length text → length before ≡ 16384 → Wrote (error_line 0 10) before after r
     → (r ≤ length after) × (r ≡ length (take r after))
-long_fits text before after r long room w = (promised text before after r room (wrote_as w (too_long text long))).1.1
+long_fits text before after r long room w = (promised text before after r room (wrote_as w (sym (too_long text long)))).1.1

@@ -12,7 +12,7 @@ use Rattle.counts_text.specs.Program.{line_refusal, first_bad, counts_lines, jud
 use Rattle.counts_text.specs.Parsers.{Accepted, Judged}
 use Rattle.counts_text.proofs.Fits.{none_first}
 
-pub too_long : (text : List ℕ) → 65536 < length text → error_line 0 10 ≡ counts_text text
+pub too_long : (text : List ℕ) → 65536 < length text → counts_text text ≡ error_line 0 10
 unfolding counts_text
 too_long text l = rw (lt-ltb 65536 (length text) l)
 

@@ -14,7 +14,7 @@ use crate::judging::{Verdict, judge};
 use crate::writing::{write_counts, write_error};
 
 // Writes what the program answers to the input, and answers how many bytes that is.
-#[tactic(auto, using(crate::proofs::OutputLaws::long_line, crate::proofs::OutputLaws::long_fits))]
+#[tactic(auto, using(crate::proofs::ProgramLaws::too_long, crate::proofs::OutputLaws::long_fits))]
 pub fn run(input: &[u8], out: &mut [u8; 16384]) -> usize
     ensures answer { result ≡ length (counts_text input.now) }
     ensures text { out.new ≡ counts_text input.now ++ drop result out.old }

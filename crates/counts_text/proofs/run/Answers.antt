@@ -1,4 +1,5 @@
 -- `counts_text::run` meets its contract: the verdict settles which of the definition's texts is written. Assumes nothing.
+use mathlib.Core.Path.{sym}
 use native.Mathlib.Omega.{arith}
 use borrow.Author.Rules.{rules}
 use Rattle.counts_text.specs.Lines.{error_line}
@@ -9,7 +10,7 @@ use Rattle.counts_text.proofs.run.Goals as goal
 
 pub write_error-requires : goal.write_error-requires
 write_error-requires c =
-    fitting c.args.input.now (error_line 0 10) c.args.out.now (too_long _ (omega arith)) (search rules)
+    fitting c.args.input.now (error_line 0 10) c.args.out.now (sym (too_long _ (omega arith))) (search rules)
 
 pub write_error-requires-in-Bad : goal.write_error-requires-in-Bad
 write_error-requires-in-Bad c =
