@@ -3,12 +3,14 @@
 // the laws of proofs/.
 #![tactic(auto)]
 
+mod carrying;
 mod refusals;
 
 ghost use Rattle.std.specs.Prelude.{◌≡◌, eqb};
 ghost use Rattle.arith.specs.Gcd.{gcd_of};
 ghost use Rattle.arith.specs.Rules.{rules_in_force};
 
+pub use carrying::carry;
 pub use refusals::Refusal;
 
 // The greatest common divisor of a and b by Euclid's rule: each call falls back on the remainder,
