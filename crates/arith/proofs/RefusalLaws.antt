@@ -9,7 +9,9 @@ use native.Mathlib.Decide.{ℕ_discrete}
 use lib.ListN.{length, drop}
 use lib.Seq.{drop-length}
 use borrow.Author.Tests.{eq-eqb, ne_eqb}
-use Rattle.arith.specs.Refusal.{unless, or_else, answered, written}
+use Rattle.arith.specs.Refusal.{unless, or_else, answered, written, number}
+use Rattle.arith.specs.declared.refusals.Refusal.{Refusal}
+use Rattle.arith.specs.declared.refusals.Refusal.TheVariants.{Slope, CellCount, Subscreens, Offset, OffSheet, InputLength, OutputLength, Brick, Plates, Form, Primary, Price, Job, PrimariesLength, Stored}
 
 -- A TEST'S ANSWER, from the function that makes it and the branch that was taken on it
 pub failed : {answer test : Bool} → answer ≡ test → answer ≡ false → test ≡ false
@@ -82,3 +84,32 @@ or_none refusal later e = go (ℕ_discrete refusal 0)
     go : Dec (refusal ≡ 0) → (refusal ≡ 0) × (later ≡ 0)
     go (yes z) = (z, sym (refused_later refusal later z) ∙ e)
     go (no h) = absurd (h (sym (refused_first refusal later h) ∙ e))
+
+-- THE NUMBER OF A REFUSAL is none of a call that is served
+pub number_above : (e : Refusal) → number e ≡ 0 → ⊥
+number_above Slope z = suc-ne-zero _ z
+number_above CellCount z = suc-ne-zero _ z
+number_above Subscreens z = suc-ne-zero _ z
+number_above Offset z = suc-ne-zero _ z
+number_above OffSheet z = suc-ne-zero _ z
+number_above InputLength z = suc-ne-zero _ z
+number_above OutputLength z = suc-ne-zero _ z
+number_above Brick z = suc-ne-zero _ z
+number_above Plates z = suc-ne-zero _ z
+number_above Form z = suc-ne-zero _ z
+number_above Primary z = suc-ne-zero _ z
+number_above Price z = suc-ne-zero _ z
+number_above Job z = suc-ne-zero _ z
+number_above PrimariesLength z = suc-ne-zero _ z
+number_above Stored z = suc-ne-zero _ z
+
+-- a call whose first tests answer a refusal is refused so, whatever the later tests say
+pub error_first : (e : Refusal) (refusal later : ℕ) → number e ≡ refusal → number e ≡ or_else refusal later
+error_first e refusal later same = same ∙ sym (refused_first refusal later (λ z. number_above e (same ∙ z)))
+
+-- it answers 0 beside that, and leaves memory as it was
+pub error_answered : (e : Refusal) (refusal value : ℕ) → number e ≡ refusal → answered refusal value ≡ 0
+error_answered e refusal value same = answered_none refusal value (λ z. number_above e (same ∙ z))
+
+pub error_written : (e : Refusal) (refusal : ℕ) (run memory : List ℕ) → number e ≡ refusal → memory ≡ written refusal run memory
+error_written e refusal run memory same = sym (written_none refusal run memory (λ z. number_above e (same ∙ z)))

@@ -1,20 +1,17 @@
 -- `screen::making::make` meets its contract. Assumes nothing.
-use mathlib.Core.Path.{sym, ◌∙◌}
 use Rattle.screen.specs.Screens.{screen_of}
 use Rattle.screen.proofs.Refusals.{limits_of}
-use Rattle.screen.proofs.MadeLaws.{made_refused, made_served}
+use Rattle.std.proofs.Common.{arith}
+use Rattle.std.proofs.lemmas.Grind.{common_steps}
+use Rattle.screen.proofs.MadeLaws.{made_error}
 use Rattle.screen.proofs.making.make.Goals as goal
-
-pub returns-then-refused-ne0 : goal.returns-then-refused-ne0
-returns-then-refused-ne0 c =
-    let e = c.numbers_refusal-refused.ensures in
-    rw e (made_refused _ _ _ _ _ (λ z. c.if-refused-ne0.true (e ∙ z)))
 
 pub screen_of-requires : goal.screen_of-requires
 screen_of-requires c =
-    let limits = limits_of (screen_of c.args.a c.args.b c.args.n c.args.k c.args.g) (sym c.numbers_refusal-refused.ensures ∙ c.if-refused-ne0.false) in
+    let limits = limits_of (screen_of c.args.a c.args.b c.args.n c.args.k c.args.g) c.in_ok-check_numbers.ensures in
     (limits.slope_above, limits.slope_below, limits.slope_limit, limits.cells_above, limits.cells_limit)
 
-pub returns : goal.returns
-returns c =
-    rw c.screen_of.ensures (made_served _ _ _ _ _ (sym c.numbers_refusal-refused.ensures ∙ c.if-refused-ne0.false))
+pub returns-in_err-check_numbers-clause-screen : goal.returns-in_err-check_numbers-clause-screen
+returns-in_err-check_numbers-clause-screen c =
+    let same = made_error _ _ _ _ _ c.in_err-check_numbers.field-0.0 c.in_err-check_numbers.ensures in
+    grind (arith, common_steps)
