@@ -1,11 +1,12 @@
 -- Laws of the refusals' combinators: what a call that is not refused passed, and what a refused one answers.
 -- Assumes nothing.
-use Prim.Native.Nat.{ℕ, suc}
+use Prim.Native.Nat.{ℕ, suc, ◌<◌}
 use mathlib.Core.Path.{◌≡◌, refl, sym, ap, ◌∙◌}
 use mathlib.Core.Bool.{Bool, true, false, ◌&&◌, cond, false≢true}
 use mathlib.Core.List.{List, ◌++◌, append-nil}
 use native.Mathlib.Nat.{suc-ne-zero}
 use native.Mathlib.Decide.{ℕ_discrete}
+use native.Mathlib.Omega.{arith}
 use lib.ListN.{length, drop}
 use lib.Seq.{drop-length}
 use borrow.Author.Tests.{eq-eqb, ne_eqb}
@@ -85,31 +86,31 @@ or_none refusal later e = go (ℕ_discrete refusal 0)
     go (yes z) = (z, sym (refused_later refusal later z) ∙ e)
     go (no h) = absurd (h (sym (refused_first refusal later h) ∙ e))
 
--- THE NUMBER OF A REFUSAL is none of a call that is served
-pub number_above : (e : Refusal) → number e ≡ 0 → ⊥
-number_above Slope z = suc-ne-zero _ z
-number_above CellCount z = suc-ne-zero _ z
-number_above Subscreens z = suc-ne-zero _ z
-number_above Offset z = suc-ne-zero _ z
-number_above OffSheet z = suc-ne-zero _ z
-number_above InputLength z = suc-ne-zero _ z
-number_above OutputLength z = suc-ne-zero _ z
-number_above Brick z = suc-ne-zero _ z
-number_above Plates z = suc-ne-zero _ z
-number_above Form z = suc-ne-zero _ z
-number_above Primary z = suc-ne-zero _ z
-number_above Price z = suc-ne-zero _ z
-number_above Job z = suc-ne-zero _ z
-number_above PrimariesLength z = suc-ne-zero _ z
-number_above Stored z = suc-ne-zero _ z
+-- THE NUMBER OF A REFUSAL is above 0, which is that of a call that is served
+pub number_above : (e : Refusal) → 0 < number e
+number_above Slope = omega arith
+number_above CellCount = omega arith
+number_above Subscreens = omega arith
+number_above Offset = omega arith
+number_above OffSheet = omega arith
+number_above InputLength = omega arith
+number_above OutputLength = omega arith
+number_above Brick = omega arith
+number_above Plates = omega arith
+number_above Form = omega arith
+number_above Primary = omega arith
+number_above Price = omega arith
+number_above Job = omega arith
+number_above PrimariesLength = omega arith
+number_above Stored = omega arith
 
 -- a call whose first tests answer a refusal is refused so, whatever the later tests say
 pub error_first : (e : Refusal) (refusal later : ℕ) → number e ≡ refusal → number e ≡ or_else refusal later
-error_first e refusal later same = same ∙ sym (refused_first refusal later (λ z. number_above e (same ∙ z)))
+error_first e refusal later same = same ∙ sym (refused_first refusal later (λ z. omega (arith, number_above e, same, z)))
 
--- it answers 0 beside that, and leaves memory as it was
-pub error_answered : (e : Refusal) (refusal value : ℕ) → number e ≡ refusal → answered refusal value ≡ 0
-error_answered e refusal value same = answered_none refusal value (λ z. number_above e (same ∙ z))
+-- a refused call answers 0 beside its refusal, and leaves memory as it was
+pub refused_answered : (refusal value : ℕ) → 0 < refusal → answered refusal value ≡ 0
+refused_answered refusal value above = answered_none refusal value (λ z. omega (arith, above, z))
 
-pub error_written : (e : Refusal) (refusal : ℕ) (run memory : List ℕ) → number e ≡ refusal → memory ≡ written refusal run memory
-error_written e refusal run memory same = sym (written_none refusal run memory (λ z. number_above e (same ∙ z)))
+pub refused_written : (refusal : ℕ) (run memory : List ℕ) → 0 < refusal → memory ≡ written refusal run memory
+refused_written refusal run memory above = sym (written_none refusal run memory (λ z. omega (arith, above, z)))

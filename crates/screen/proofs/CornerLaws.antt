@@ -16,7 +16,7 @@ use Rattle.screen.specs.Phase.{phase, phase_of}
 use Rattle.screen.specs.Made.{Made}
 use Rattle.screen.specs.Corner.{offset_of, offset_from, moved_to}
 use Rattle.screen.proofs.Refusals.{limits_kept, limits_suffice}
-use Rattle.screen.proofs.MadeLaws.{replaced_first, replaced_old, replaced_number, replaced_error, replaced_beside, by_admitted}
+use Rattle.screen.proofs.MadeLaws.{replaced_first, replaced_old, replaced_number, replaced_old_none, replaced_beside, by_admitted}
 
 module _ (a b n g : ℕ) (pos : 0 < n) (x y : ℕ) where
   -- the offset as seen from (x, y)
@@ -60,8 +60,8 @@ module _ (s : Screen) (x y : ℕ) where
   pub moved_old : (e : Refusal) → number e ≡ refusal_of s → number e ≡ (moved_to s x y).refusal
   moved_old e same = replaced_old s s.n s.k (offset_from s x y) e same
 
-  pub moved_error : (e : Refusal) → number e ≡ (moved_to s x y).refusal → s ≡ (moved_to s x y).screen
-  moved_error e same = replaced_error s s.n s.k (offset_from s x y) e same
+  pub moved_none : 0 < refusal_of s → s ≡ (moved_to s x y).screen
+  moved_none above = replaced_old_none s s.n s.k (offset_from s x y) above
 
   module _ (ok : Admitted s) where
     numbers_admitted : numbers_refusal s.a s.b s.n s.k (offset_from s x y) ≡ 0

@@ -1,13 +1,14 @@
 -- Making and replacing: what is handed back, refused or not, and that it is admitted.
 -- Assumes nothing.
-use Prim.Native.Nat.{ℕ, ◌≤◌}
+use Prim.Native.Nat.{ℕ, ◌≤◌, ◌<◌}
 use mathlib.Core.Path.{◌≡◌, refl, sym, ap, ◌∙◌}
 use mathlib.Core.List.{List, [], ◌∷◌}
 use native.Mathlib.Decide.{ℕ_discrete}
+use native.Mathlib.Omega.{arith}
 use borrow.Author.Tests.{eq-eqb, ne_eqb}
 use Rattle.arith.specs.Refusal.{or_else, number}
 use Rattle.arith.specs.declared.refusals.Refusal.{Refusal}
-use Rattle.arith.proofs.RefusalLaws.{refused_first, refused_later, error_first, number_above, or_none}
+use Rattle.arith.proofs.RefusalLaws.{refused_first, refused_later, error_first, or_none}
 use Rattle.screen.specs.declared.Screen.{Screen}
 use Rattle.screen.specs.Screens.{screen_of, numbers_refusal, refusal_of, Admitted, Stored}
 use Rattle.screen.specs.Made.{Made, handed_back, no_screen, made_of, replaced_by, Replacement, offset, subscreens, cells, replaced, after_all}
@@ -36,9 +37,9 @@ module _ (a b n k g : ℕ) where
   unfolding made_of
   made_number = refl
 
-  pub made_error : (e : Refusal) → number e ≡ numbers_refusal a b n k g → no_screen ≡ (made_of a b n k g).screen
+  pub made_none : 0 < numbers_refusal a b n k g → no_screen ≡ (made_of a b n k g).screen
   unfolding made_of
-  made_error e same = rw (ne_eqb (numbers_refusal a b n k g) 0 (λ z. number_above e (same ∙ z)))
+  made_none above = rw (ne_eqb (numbers_refusal a b n k g) 0 (λ z. omega (arith, above, z)))
 
   pub made_served : 0 ≡ numbers_refusal a b n k g → screen_of a b n k g ≡ (made_of a b n k g).screen
   unfolding made_of
@@ -79,9 +80,15 @@ module _ (s : Screen) (n k g : ℕ) where
   unfolding replaced_by
   replaced_number ok = refused_later (refusal_of s) _ (sym ok)
 
-  pub replaced_error : (e : Refusal) → number e ≡ (replaced_by s n k g).refusal → s ≡ (replaced_by s n k g).screen
+  replaced_none : 0 < tested → s ≡ (replaced_by s n k g).screen
   unfolding replaced_by
-  replaced_error e same = rw (ne_eqb tested 0 (λ z. number_above e (same ∙ z)))
+  replaced_none above = rw (ne_eqb tested 0 (λ z. omega (arith, above, z)))
+
+  pub replaced_old_none : 0 < refusal_of s → s ≡ (replaced_by s n k g).screen
+  replaced_old_none above = replaced_none (omega (arith, above, refused_first (refusal_of s) (numbers_refusal s.a s.b n k g) (λ z. omega (arith, above, z))))
+
+  pub replaced_new_none : 0 ≡ refusal_of s → 0 < numbers_refusal s.a s.b n k g → s ≡ (replaced_by s n k g).screen
+  replaced_new_none ok above = replaced_none (omega (arith, above, refused_later (refusal_of s) (numbers_refusal s.a s.b n k g) (sym ok)))
 
   -- and served, with its brick worked out or, beside the same cell count, as it was
   module _ (ok : 0 ≡ refusal_of s) (e : 0 ≡ numbers_refusal s.a s.b n k g) where

@@ -11,14 +11,13 @@ use lib.ListN.{length, drop}
 use borrow.Author.Tests.{leb-true, ltb-true, eqb-true, eqb-false, le-leb, lt-leb, lt-ltb, eq-eqb}
 use Rattle.arith.specs.Refusal.{unless, number}
 use Rattle.arith.specs.declared.refusals.Refusal.{Refusal}
-use Rattle.arith.specs.declared.refusals.Refusal.TheVariants as refusal
 use Rattle.arith.specs.Sheet.{on_sheet}
-use Rattle.arith.proofs.RefusalLaws.{both_pass, unless_none, refused_first, refused_later, error_first, error_written, answered_none, answered_whole, written_none, written_whole, or_none}
+use Rattle.arith.proofs.RefusalLaws.{both_pass, unless_none, refused_first, refused_later, error_first, refused_written, answered_none, answered_whole, written_none, written_whole, or_none}
 use Rattle.arith.proofs.RunLaws.{upto_length}
 use Rattle.arith.proofs.SheetLaws.{off_right, off_below, on_sheet_lem, sheet_kept}
 use Rattle.screen.specs.declared.Screen.{Screen}
 use Rattle.screen.specs.Sizes.{rows_of, columns_of}
-use Rattle.screen.specs.Screens.{slope_admitted, cells_admitted, subscreens_admitted, offset_admitted, numbers_refusal, stored_true, refusal_of, Admitted, Limits, Stored}
+use Rattle.screen.specs.Screens.{screen_of, slope_admitted, cells_admitted, subscreens_admitted, offset_admitted, numbers_refusal, stored_true, refusal_of, Admitted, Limits, Stored}
 use Rattle.screen.specs.Phase.{Place, phase, place_refusal, place_of}
 use Rattle.screen.specs.Brick.{BrickAnswer, brick_of, brick_phases, buffer_refusal, filled}
 use Rattle.screen.specs.Laws.{AdmittedWords}
@@ -258,16 +257,40 @@ module _ (s : Screen) where
   brick_whole e = rw (answered_whole (refusal_of s) s.columns e, answered_whole (refusal_of s) s.rows e, answered_whole (refusal_of s) s.shift e, e)
 
 module _ (s : Screen) (buffer : List ℕ) where
-  filled_none : (e : Refusal) → number e ≡ buffer_refusal s (length buffer) → buffer ≡ filled s buffer
-  unfolding filled
-  filled_none e same = error_written e (buffer_refusal s (length buffer)) (brick_phases s) buffer same
-
-  pub filled_error : (e : Refusal) → number e ≡ refusal_of s → buffer ≡ filled s buffer
-  filled_error e same = filled_none e (buffer_error s (length buffer) e same)
-
-  pub filled_short : 0 ≡ refusal_of s → length buffer < s.n → buffer ≡ filled s buffer
-  filled_short e short = filled_none refusal.Brick (buffer_short s (length buffer) (sym e) short)
-
   pub filled_whole : buffer_refusal s (length buffer) ≡ 0 → filled s buffer ≡ brick_phases s ++ drop s.n buffer
   unfolding filled brick_phases
   filled_whole e = written_whole (buffer_refusal s (length buffer)) (brick_phases s) buffer s.n e (upto_length _ s.n)
+
+  filled_none : 0 < buffer_refusal s (length buffer) → buffer ≡ filled s buffer
+  unfolding filled
+  filled_none above = refused_written (buffer_refusal s (length buffer)) (brick_phases s) buffer above
+
+  pub filled_refused : 0 < refusal_of s → buffer ≡ filled s buffer
+  filled_refused above = filled_none (omega (arith, above, buffer_refused s (length buffer) (λ z. omega (arith, above, z))))
+
+  pub filled_short : refusal_of s ≡ 0 → length buffer < s.n → buffer ≡ filled s buffer
+  filled_short e short = filled_none (omega (arith, buffer_short s (length buffer) e short))
+
+  pub filled_served : refusal_of s ≡ 0 → s.n ≤ length buffer → brick_phases s ++ drop s.n buffer ≡ filled s buffer
+  filled_served e room = sym (filled_whole (sym (buffer_fits s (length buffer) e room)))
+
+-- ---- the limits that the functions below a call ask for, by what the call has tested
+
+-- of five numbers that are not refused, those that make a brick
+pub brick_limits : (a b n k g : ℕ) → 0 ≡ numbers_refusal a b n k g → (0 < a) × (a < b) × (b ≤ 64) × (0 < n) × (n ≤ 4096)
+brick_limits a b n k g e =
+    let limits = limits_of (screen_of a b n k g) e in
+    (limits.slope_above, limits.slope_below, limits.slope_limit, limits.cells_above, limits.cells_limit)
+
+module _ (s : Screen) (e : 0 ≡ refusal_of s) where
+  -- of an admitted screen, those of a phase
+  pub phase_limits : (s.a ≤ 64) × (s.b ≤ 64) × (0 < s.n) × (s.n ≤ 4096) × (s.g < s.n)
+  phase_limits =
+      let limits = limits_kept s (sym e) in
+      (omega (arith, limits.slope_below, limits.slope_limit), limits.slope_limit, limits.cells_above, limits.cells_limit, limits.offset_below)
+
+  -- and those of the brick that is filled
+  pub fill_limits : {places : ℕ} → s.n ≤ places → (0 < s.n) × (s.n ≤ 4096) × (s.g < s.n) × (s.columns ≡ columns_of s.a s.n) × (s.n ≤ places)
+  fill_limits room =
+      let limits = limits_kept s (sym e) in
+      (limits.cells_above, limits.cells_limit, limits.offset_below, (stored_kept s (sym e)).columns_true, room)

@@ -31,7 +31,7 @@ pub fn brick_of(s: Screen) -> Result<Brick, Refusal>
 }
 
 // Writes a screen's brick to the first n places of a lent buffer; refused, writes nothing.
-#[tactic(auto, using(crate::proofs::Refusals::buffer_error, crate::proofs::Refusals::buffer_short, crate::proofs::Refusals::buffer_fits, crate::proofs::Refusals::filled_error, crate::proofs::Refusals::filled_short))]
+#[tactic(auto, using(arith::proofs::RefusalLaws::number_above, crate::proofs::Refusals::buffer_error, crate::proofs::Refusals::buffer_short, crate::proofs::Refusals::buffer_fits, crate::proofs::Refusals::filled_refused, crate::proofs::Refusals::filled_short, crate::proofs::Refusals::filled_served, crate::proofs::Refusals::fill_limits))]
 pub fn fill_brick(s: Screen, brick: &mut [u16]) -> Result<(), Refusal>
     ensures refused { number_of result ≡ buffer_refusal s (length brick.old) }
     ensures buffer { brick.new ≡ filled s brick.old }

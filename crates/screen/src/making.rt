@@ -10,7 +10,7 @@ use crate::{Screen, check, check_numbers};
 use arith::Refusal;
 
 // The screen of five numbers, with those of its brick.
-#[tactic(auto, using(crate::proofs::MadeLaws::made_number, crate::proofs::MadeLaws::made_error, crate::proofs::MadeLaws::made_served))]
+#[tactic(auto, using(arith::proofs::RefusalLaws::number_above, crate::proofs::Refusals::brick_limits, crate::proofs::MadeLaws::made_number, crate::proofs::MadeLaws::made_none, crate::proofs::MadeLaws::made_served))]
 pub fn make(a: u32, b: u32, n: u32, k: u32, g: u32) -> Result<Screen, Refusal>
     ensures refused { number_of result ≡ (made_of a b n k g).refusal }
     ensures screen { result_unwrap_or result no_screen ≡ (made_of a b n k g).screen }
@@ -44,7 +44,7 @@ pub fn replace_cells(s: Screen, n: u32) -> Result<Screen, Refusal>
 }
 
 // A screen with three numbers in place of its own. The brick is worked out anew only for another cell count.
-#[tactic(auto, using(crate::proofs::MadeLaws::replaced_old, crate::proofs::MadeLaws::replaced_number, crate::proofs::MadeLaws::replaced_error, crate::proofs::MadeLaws::replaced_served, crate::proofs::MadeLaws::replaced_beside))]
+#[tactic(auto, using(arith::proofs::RefusalLaws::number_above, crate::proofs::Refusals::brick_limits, crate::proofs::MadeLaws::replaced_old, crate::proofs::MadeLaws::replaced_number, crate::proofs::MadeLaws::replaced_old_none, crate::proofs::MadeLaws::replaced_new_none, crate::proofs::MadeLaws::replaced_served, crate::proofs::MadeLaws::replaced_beside))]
 fn replaced_by(s: Screen, n: u32, k: u32, g: u32) -> Result<Screen, Refusal>
     ensures refused { number_of result ≡ (replaced_by s n k g).refusal }
     ensures screen { result_unwrap_or result s ≡ (replaced_by s n k g).screen }

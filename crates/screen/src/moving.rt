@@ -9,7 +9,7 @@ use arith::{Refusal, carry};
 
 // The screen whose phase at each place is that of the screen that is handed in, x columns further to the
 // right and y rows further down.
-#[tactic(auto, using(crate::proofs::CornerLaws::moved_old, crate::proofs::CornerLaws::moved_error, crate::proofs::CornerLaws::moved_unrefused, crate::proofs::CornerLaws::moved_screen))]
+#[tactic(auto, using(arith::proofs::RefusalLaws::number_above, crate::proofs::Refusals::phase_limits, crate::proofs::CornerLaws::moved_old, crate::proofs::CornerLaws::moved_none, crate::proofs::CornerLaws::moved_unrefused, crate::proofs::CornerLaws::moved_screen))]
 pub fn moved(s: Screen, x: u64, y: u64) -> Result<Screen, Refusal>
     ensures refused { number_of result ≡ (moved_to s x y).refusal }
     ensures screen { result_unwrap_or result s ≡ (moved_to s x y).screen }
