@@ -3,10 +3,8 @@
 // print.
 #![tactic(auto)]
 
-use std::fmt;
-use std::io;
-
 use arith::Refusal;
+use std::fmt;
 
 // 36 colorants, all eight among them.
 const CELLS: [u8; 36] = [
@@ -40,20 +38,47 @@ impl Call {
     }
 }
 
-fn main(rt: HostRuntime) -> io::Result<()> {
-    println!(rt; "# columns rows: refusal of packing; the planes, every place 170 before; refusal of unpacking; the cells, every place 255 before")?;
-    round_trips(&rt)?;
-    println!(rt; "# columns rows, cells planes: refusal of packing; the planes")?;
-    packing_sizes(&rt)?;
-    packing_bytes(&rt)?;
-    println!(rt; "# columns rows, planes cells: refusal of unpacking; the cells")?;
-    unpacking_sizes(&rt)?;
-    pixels(&rt)?;
-    padding(&rt)?;
-    lowest_first(&rt)
+// Standard output.
+#[derive(Clone, Copy)]
+struct Out;
+
+impl fmt::Write for Out {
+    fn write_str(&mut self, text: &str) -> fmt::Result {
+        if io::write_all(1, text.as_bytes()) {
+            Ok(())
+        } else {
+            Err(fmt::Error)
+        }
+    }
 }
 
-fn round_trips(rt: &impl Print) -> io::Result<()> {
+fn main() {
+    let _ = show_all(&mut Out);
+}
+
+fn show_all(out: &mut impl fmt::Write) -> fmt::Result {
+    writeln!(
+        out,
+        "# columns rows: refusal of packing; the planes, every place 170 before; refusal of unpacking; the cells, every place 255 before"
+    )?;
+    round_trips(out)?;
+    writeln!(
+        out,
+        "# columns rows, cells planes: refusal of packing; the planes"
+    )?;
+    packing_sizes(out)?;
+    packing_bytes(out)?;
+    writeln!(
+        out,
+        "# columns rows, planes cells: refusal of unpacking; the cells"
+    )?;
+    unpacking_sizes(out)?;
+    pixels(out)?;
+    padding(out)?;
+    lowest_first(out)
+}
+
+fn round_trips(out: &mut impl fmt::Write) -> fmt::Result {
     let calls = [
         Call::new(0, 0, 0, 0),
         Call::new(0, 2, 0, 0),
@@ -71,13 +96,13 @@ fn round_trips(rt: &impl Print) -> io::Result<()> {
         Call::new(17, 2, 34, 48),
     ];
     for call in calls {
-        round_trip(rt, call)?;
+        round_trip(out, call)?;
     }
     Ok(())
 }
 
 // Refusals 5, 6 and 7 of packing: the sheet's edge, and lengths one short and one long.
-fn packing_sizes(rt: &impl Print) -> io::Result<()> {
+fn packing_sizes(out: &mut impl fmt::Write) -> fmt::Result {
     let calls = [
         Call::new(9, 2, 18, 32),
         Call::new(9, 2, 17, 32),
@@ -93,28 +118,28 @@ fn packing_sizes(rt: &impl Print) -> io::Result<()> {
         Call::new(4294967295, 4294967295, 1, 1),
     ];
     for call in calls {
-        show_packing(rt, call, &CELLS)?;
+        show_packing(out, call, &CELLS)?;
     }
     Ok(())
 }
 
 // Refusal 9 of packing: bytes of 7, 8 and 255, first, last and past the last cell.
-fn packing_bytes(rt: &impl Print) -> io::Result<()> {
+fn packing_bytes(out: &mut impl fmt::Write) -> fmt::Result {
     let mut cells = CELLS;
     cells[0] = 8;
-    show_packing(rt, Call::new(9, 2, 18, 32), &cells)?;
-    show_packing(rt, Call::new(9, 2, 17, 32), &cells)?;
-    show_packing(rt, Call::new(9, 2, 18, 31), &cells)?;
+    show_packing(out, Call::new(9, 2, 18, 32), &cells)?;
+    show_packing(out, Call::new(9, 2, 17, 32), &cells)?;
+    show_packing(out, Call::new(9, 2, 18, 31), &cells)?;
     cells[0] = 7;
     cells[17] = 255;
-    show_packing(rt, Call::new(9, 2, 18, 32), &cells)?;
+    show_packing(out, Call::new(9, 2, 18, 32), &cells)?;
     cells[17] = 7;
     cells[18] = 8;
-    show_packing(rt, Call::new(9, 2, 18, 32), &cells)
+    show_packing(out, Call::new(9, 2, 18, 32), &cells)
 }
 
 // Refusals 5, 6 and 7 of unpacking.
-fn unpacking_sizes(rt: &impl Print) -> io::Result<()> {
+fn unpacking_sizes(out: &mut impl fmt::Write) -> fmt::Result {
     let calls = [
         Call::new(9, 1, 16, 9),
         Call::new(9, 1, 15, 9),
@@ -130,60 +155,60 @@ fn unpacking_sizes(rt: &impl Print) -> io::Result<()> {
         Call::new(4294967295, 4294967295, 1, 1),
     ];
     for call in calls {
-        show_unpacking(rt, call, &PLANES)?;
+        show_unpacking(out, call, &PLANES)?;
     }
     Ok(())
 }
 
 // Refusal 9 of unpacking: rule 11.13's example; a pixel in no plane, in two, and both with as many bits as
 // pixels.
-fn pixels(rt: &impl Print) -> io::Result<()> {
+fn pixels(out: &mut impl fmt::Write) -> fmt::Result {
     let one = Call::new(1, 1, 8, 1);
     let mut planes = PLANES;
     planes[0] = 128;
     planes[1] = 128;
     planes[15] = 0;
-    show_unpacking(rt, one, &planes)?;
+    show_unpacking(out, one, &planes)?;
     planes[1] = 0;
-    show_unpacking(rt, one, &planes)?;
+    show_unpacking(out, one, &planes)?;
     planes[0] = 0;
-    show_unpacking(rt, one, &planes)?;
+    show_unpacking(out, one, &planes)?;
     planes[7] = 128;
-    show_unpacking(rt, one, &planes)?;
+    show_unpacking(out, one, &planes)?;
     let nine = Call::new(9, 1, 16, 9);
     planes = PLANES;
     planes[0] = 254;
-    show_unpacking(rt, nine, &planes)?;
+    show_unpacking(out, nine, &planes)?;
     planes[0] = 255;
     planes[14] = 1;
-    show_unpacking(rt, nine, &planes)?;
+    show_unpacking(out, nine, &planes)?;
     planes[0] = 254;
-    show_unpacking(rt, nine, &planes)?;
+    show_unpacking(out, nine, &planes)?;
     planes = PLANES;
     planes[15] = 0;
-    show_unpacking(rt, nine, &planes)?;
+    show_unpacking(out, nine, &planes)?;
     planes[1] = 128;
     planes[15] = 128;
-    show_unpacking(rt, nine, &planes)?;
+    show_unpacking(out, nine, &planes)?;
     planes[0] = 254;
-    show_unpacking(rt, nine, &planes)
+    show_unpacking(out, nine, &planes)
 }
 
 // Refusal 9 of unpacking: padding set in the first and in the last plane, first and last padding bit.
-fn padding(rt: &impl Print) -> io::Result<()> {
+fn padding(out: &mut impl fmt::Write) -> fmt::Result {
     let nine = Call::new(9, 1, 16, 9);
     for (place, byte) in [(1usize, 64u8), (1, 1), (15, 192), (15, 129), (7, 32)] {
         let mut planes = PLANES;
         if place < planes.len() {
             planes[place] = byte;
         }
-        show_unpacking(rt, nine, &planes)?;
+        show_unpacking(out, nine, &planes)?;
     }
     Ok(())
 }
 
 // Of several refusals the lowest number is answered.
-fn lowest_first(rt: &impl Print) -> io::Result<()> {
+fn lowest_first(out: &mut impl fmt::Write) -> fmt::Result {
     let mut planes = PLANES;
     planes[1] = 1;
     for call in [
@@ -192,13 +217,13 @@ fn lowest_first(rt: &impl Print) -> io::Result<()> {
         Call::new(65537, 1, 16, 8),
         Call::new(0, 2, 0, 0),
     ] {
-        show_unpacking(rt, call, &planes)?;
+        show_unpacking(out, call, &planes)?;
     }
     Ok(())
 }
 
 // Packs the first cells, unpacks the planes again, and shows both memories.
-fn round_trip(rt: &impl Print, call: Call) -> io::Result<()> {
+fn round_trip(out: &mut impl fmt::Write, call: Call) -> fmt::Result {
     let mut planes = [170u8; 52];
     let packing = number(pack_first(call, &CELLS, &mut planes));
     let mut back = [255u8; 36];
@@ -211,7 +236,8 @@ fn round_trip(rt: &impl Print, call: Call) -> io::Result<()> {
         &planes,
         &mut back,
     ));
-    println!(rt;
+    writeln!(
+        out,
         "{} {}: {packing};{}; {unpacking};{}",
         call.columns,
         call.rows,
@@ -220,16 +246,16 @@ fn round_trip(rt: &impl Print, call: Call) -> io::Result<()> {
     )
 }
 
-fn show_packing(rt: &impl Print, call: Call, from: &[u8]) -> io::Result<()> {
+fn show_packing(out: &mut impl fmt::Write, call: Call, from: &[u8]) -> fmt::Result {
     let mut planes = [170u8; 36];
     let refusal = number(pack_first(call, from, &mut planes));
-    println!(rt; "{call}: {refusal};{}", Spaced(&planes))
+    writeln!(out, "{call}: {refusal};{}", Spaced(&planes))
 }
 
-fn show_unpacking(rt: &impl Print, call: Call, from: &[u8]) -> io::Result<()> {
+fn show_unpacking(out: &mut impl fmt::Write, call: Call, from: &[u8]) -> fmt::Result {
     let mut back = [255u8; 12];
     let refusal = number(unpack_first(call, from, &mut back));
-    println!(rt; "{call}: {refusal};{}", Spaced(&back))
+    writeln!(out, "{call}: {refusal};{}", Spaced(&back))
 }
 
 // Packs the first cells into the first places of the planes; nothing where there are not so many.
