@@ -1,13 +1,17 @@
 -- Refusals from the tests that a call makes, one law a number; and what a call leaves in lent memory, refused or not.
 -- Assumes nothing.
-use Prim.Native.Nat.{ℕ}
+use Prim.Native.Nat.{ℕ, ◌≤◌, ◌<◌}
 use mathlib.Core.Path.{◌≡◌, refl, sym, ◌∙◌}
 use mathlib.Core.Bool.{Bool, true, false, ◌&&◌}
 use mathlib.Core.List.{List}
 use lib.ListN.{length}
-use borrow.Author.Tests.{eqb-true, eq-eqb, ne_eqb}
+use borrow.Author.Tests.{eqb-true, eq-eqb, ne_eqb, le-leb, lt-leb}
+use mathlib.Core.Logic.{◌⊎◌, inl, inr}
+use Rattle.arith.specs.Refusal.{unless, number}
+use Rattle.arith.specs.declared.refusals.Refusal.{Refusal}
+use Rattle.arith.proofs.SheetLaws.{at_corner, corner_kept}
 use Rattle.arith.specs.Sheet.{on_sheet}
-use Rattle.arith.proofs.RefusalLaws.{both_pass, unless_none, or_none, content_refused, content_passed, size_refused}
+use Rattle.arith.proofs.RefusalLaws.{both_pass, unless_none, or_none, number_above, content_refused, content_passed, size_refused}
 use Rattle.arith.proofs.RunLaws.{upto_length}
 use Rattle.plates.specs.Planes.{planes_length, cells_length, planes_of, cells_of, colorants_only, pixels_once, padding_clear}
 use Rattle.plates.specs.Refusals.{lengths_refusal, size_refusal, pack_size, unpack_size, pack_refusal, unpack_refusal, packed, unpacked}
@@ -28,21 +32,37 @@ module _ (input stated output due : ℕ) where
     unfolding lengths_refusal
     length_0 e = rw (eq-eqb _ _ fits, eq-eqb _ _ e)
 
+-- the sheet's test
+module _ (columns rows : ℕ) where
+  pub window_off : ((columns ≤ 65536) × (65536 < rows)) ⊎ (65536 < columns) → 5 ≡ unless (on_sheet 0 0 columns rows) 5 0
+  window_off (inl h) = rw (at_corner columns rows, le-leb _ _ h.0, lt-leb _ _ h.1)
+  window_off (inr h) = rw (at_corner columns rows, lt-leb _ _ h)
+
+  pub window_on : (columns ≤ 65536) × (rows ≤ 65536) → 0 ≡ unless (on_sheet 0 0 columns rows) 5 0
+  window_on h = rw (at_corner columns rows, le-leb _ _ h.0, le-leb _ _ h.1)
+
 module _ (columns rows input stated output due : ℕ) where
-  pub size_5 : on_sheet 0 0 columns rows ≡ false → 5 ≡ size_refusal columns rows input stated output due
+  -- refused by the sheet's test
+  pub size_5 : (e : Refusal) → number e ≡ unless (on_sheet 0 0 columns rows) 5 0 → number e ≡ size_refusal columns rows input stated output due
   unfolding size_refusal
-  size_5 e = rw e
+  size_5 e told = go (on_sheet 0 0 columns rows) told
+    where
+      go : (on : Bool) → number e ≡ unless on 5 0 → number e ≡ unless on 5 (lengths_refusal input stated output due)
+      go true z = absurd (number_above e z)
+      go false z = z
 
-  pub size_lengths : on_sheet 0 0 columns rows ≡ true → lengths_refusal input stated output due ≡ size_refusal columns rows input stated output due
+  -- where it passes, the lengths decide
+  pub size_lengths : columns ≤ 65536 → rows ≤ 65536 → lengths_refusal input stated output due ≡ size_refusal columns rows input stated output due
   unfolding size_refusal
-  size_lengths e = rw e
+  size_lengths wide high = rw (at_corner columns rows, le-leb _ _ wide, le-leb _ _ high) refl
 
-  -- the sizes are right where the sheet's test has passed and that of the lengths has answered 0
-  pub size_passed : {r : ℕ} → on_sheet 0 0 columns rows ≡ true → r ≡ lengths_refusal input stated output due → r ≡ 0 → size_refusal columns rows input stated output due ≡ 0
-  size_passed sheet e z = sym (size_lengths sheet) ∙ sym e ∙ z
+  pub size_passed : columns ≤ 65536 → rows ≤ 65536 → 0 ≡ lengths_refusal input stated output due → size_refusal columns rows input stated output due ≡ 0
+  size_passed wide high e = sym (size_lengths wide high) ∙ sym e
 
   pub size_right : on_sheet 0 0 columns rows ≡ true → input ≡ stated → output ≡ due → size_refusal columns rows input stated output due ≡ 0
-  size_right sheet fits e = size_passed sheet (length_0 input stated output due fits e) refl
+  size_right sheet fits e =
+      let within = corner_kept columns rows sheet in
+      size_passed within.0 within.1 (length_0 input stated output due fits e)
 
   -- what a call of the right sizes keeps
   pub size_kept : size_refusal columns rows input stated output due ≡ 0 → (on_sheet 0 0 columns rows ≡ true) × (input ≡ stated) × (output ≡ due)
@@ -67,10 +87,10 @@ module _ (columns rows : ℕ) (cells memory : List ℕ) where
         content_passed _ (colorants_only cells) 8 (planes_of columns rows cells) memory size e
         (upto_length _ (planes_length columns rows) ∙ sym (size_kept _ _ _ _ _ _ size).2)
 
-  pub pack_size_lem : {r : ℕ} → r ≡ pack_size columns rows (length cells) (length memory) → (r ≡ 0 → ⊥)
-      → (r ≡ pack_refusal columns rows cells (length memory)) × (memory ≡ packed columns rows cells memory)
+  pub pack_size_lem : (e : Refusal) → number e ≡ pack_size columns rows (length cells) (length memory)
+      → (number e ≡ pack_refusal columns rows cells (length memory)) × (memory ≡ packed columns rows cells memory)
   unfolding pack_refusal packed
-  pack_size_lem e h = size_refused _ (colorants_only cells) 8 (planes_of columns rows cells) memory e h
+  pack_size_lem e told = size_refused _ (colorants_only cells) 8 (planes_of columns rows cells) memory told (number_above e)
 
 -- ---- unpacking, in the same way
 
@@ -90,10 +110,10 @@ module _ (columns rows : ℕ) (planes memory : List ℕ) where
         content_passed _ sound 8 (cells_of columns rows planes) memory size e
         (upto_length _ (cells_length columns rows) ∙ sym (size_kept _ _ _ _ _ _ size).2)
 
-  pub unpack_size_lem : {r : ℕ} → r ≡ unpack_size columns rows (length planes) (length memory) → (r ≡ 0 → ⊥)
-      → (r ≡ unpack_refusal columns rows planes (length memory)) × (memory ≡ unpacked columns rows planes memory)
+  pub unpack_size_lem : (e : Refusal) → number e ≡ unpack_size columns rows (length planes) (length memory)
+      → (number e ≡ unpack_refusal columns rows planes (length memory)) × (memory ≡ unpacked columns rows planes memory)
   unfolding unpack_refusal unpacked
-  unpack_size_lem e h = size_refused _ sound 8 (cells_of columns rows planes) memory e h
+  unpack_size_lem e told = size_refused _ sound 8 (cells_of columns rows planes) memory told (number_above e)
 
 -- ---- what a call that is not refused has passed
 

@@ -4,13 +4,14 @@
 
 mod packing;
 mod unpacking;
+mod window;
 
-ghost use Rattle.std.specs.Prelude.{◌≡◌, ◌≤◌};
+ghost use Rattle.std.specs.Prelude.{◌≡◌};
 ghost use Rattle.plates.specs.Masks.{mask};
-ghost use Rattle.plates.specs.Planes.{row_bytes};
-ghost use Rattle.arith.specs.Sheet.{on_sheet};
 ghost use Rattle.plates.specs.Refusals.{lengths_refusal};
+ghost use Rattle.arith.specs.Refusal.{number_of};
 
+use arith::Refusal;
 pub use packing::pack;
 pub use unpacking::unpack;
 
@@ -21,30 +22,15 @@ fn mask_of(x: usize) -> u8
     128 >> (x % 8)
 }
 
-// Whether a window at the sheet's corner lies on the sheet.
-fn on_sheet(columns: u32, rows: u32) -> bool
-    ensures { result ≡ on_sheet 0 0 columns rows }
-{
-    columns <= 65536 && rows <= 65536
-}
-
-// 6 where the input's length is not the one stated, else 7 where the output's is not, else 0.
-fn lengths_refusal(input: usize, stated: usize, output: usize, due: usize) -> u32
-    ensures { result ≡ lengths_refusal input stated output due }
+// Refused where the input's length is not the one stated, and then where the output's is not.
+fn check_lengths(input: usize, stated: usize, output: usize, due: usize) -> Result<(), Refusal>
+    ensures { number_of result ≡ lengths_refusal input stated output due }
 {
     if input != stated {
-        return 6;
+        return Err(Refusal::InputLength);
     }
     if output != due {
-        return 7;
+        return Err(Refusal::OutputLength);
     }
-    0
-}
-
-// How many bytes a row of a plane has.
-fn row_bytes(columns: usize) -> usize
-    requires { columns ≤ 65536 }
-    ensures { result ≡ row_bytes columns }
-{
-    (columns + 7) / 8
+    Ok(())
 }

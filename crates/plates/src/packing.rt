@@ -1,33 +1,31 @@
 // Packing: from cells to planes.
 ghost use Rattle.std.specs.Prelude.{◌≡◌, true, ◌⊎◌, ◌+◌, ◌*◌, ◌≤◌, ◌<◌, length, get_or};
+ghost use Rattle.arith.specs.Refusal.{number_of};
 ghost use Rattle.plates.specs.Planes.{row_bytes, planes_length, planes_of, colorants_only};
 ghost use Rattle.plates.specs.Places.{Packable, PackedTo, word_of, stored};
 ghost use Rattle.plates.specs.Refusals.{pack_refusal, packed};
 
-use crate::{lengths_refusal, mask_of, on_sheet, row_bytes};
+use crate::window::Window;
+use crate::{check_lengths, mask_of};
+use arith::Refusal;
 
-// Packs the cells of a window into its eight planes and answers 0, or answers what refuses them and
-// writes nothing.
-pub fn pack(columns: u32, rows: u32, cells: &[u8], planes: &mut [u8]) -> u32
-    ensures answer { result ≡ pack_refusal columns rows cells.now (length planes.old) }
+// Packs the cells of a window into its eight planes, or answers what refuses them and writes nothing.
+pub fn pack(columns: u32, rows: u32, cells: &[u8], planes: &mut [u8]) -> Result<(), Refusal>
+    ensures refused { number_of result ≡ pack_refusal columns rows cells.now (length planes.old) }
     ensures memory { planes.new ≡ packed columns rows cells.now planes.old }
 {
-    if !on_sheet(columns, rows) {
-        return 5;
-    }
-    let wide = columns as usize;
-    let high = rows as usize;
-    let stated = wide * high;
-    let due = 8 * high * row_bytes(wide);
-    let refused = lengths_refusal(cells.len(), stated, planes.len(), due);
-    if refused != 0 {
-        return refused;
-    }
+    let window = Window::new(columns, rows)?;
+    check_lengths(
+        cells.len(),
+        window.cells_length(),
+        planes.len(),
+        window.planes_length(),
+    )?;
     if !colorants_only(cells) {
-        return 9;
+        return Err(Refusal::Plates);
     }
-    write_planes(wide, high, cells, planes);
-    0
+    write_planes(window, cells, planes);
+    Ok(())
 }
 
 // Whether no cell is above 7. The highest is looked for, without an early end, so that the compiler
@@ -46,47 +44,39 @@ fn colorants_only(cells: &[u8]) -> bool
 }
 
 // Writes the rows of the window one after the other, each in all eight planes.
-fn write_planes(columns: usize, rows: usize, cells: &[u8], planes: &mut [u8])
-    requires { Packable columns rows cells.now × (length planes.old ≡ planes_length columns rows) }
-    ensures { planes.new ≡ planes_of columns rows cells.now }
+fn write_planes(window: Window, cells: &[u8], planes: &mut [u8])
+    requires { Packable window.columns window.rows cells.now × (length planes.old ≡ planes_length window.columns window.rows) }
+    ensures { planes.new ≡ planes_of window.columns window.rows cells.now }
 {
-    for y in 0..rows {
-        write_row(columns, rows, cells, y, planes);
+    for y in 0..window.rows {
+        write_row(window, cells, y, planes);
     }
 }
 
 // Writes row y in all eight planes, place by place. Places of eight pixels, which all are but perhaps a
 // row's last, are told apart, so that the compiler sees the eight masks.
-fn write_row(columns: usize, rows: usize, cells: &[u8], y: usize, planes: &mut [u8])
-    requires { Packable columns rows cells.now × (y < rows) × PackedTo columns rows cells.now planes.old (y * row_bytes columns) }
-    ensures { PackedTo columns rows cells.now planes.new (y * row_bytes columns + row_bytes columns) }
+fn write_row(window: Window, cells: &[u8], y: usize, planes: &mut [u8])
+    requires { Packable window.columns window.rows cells.now × (y < window.rows) × PackedTo window.columns window.rows cells.now planes.old (y * row_bytes window.columns) }
+    ensures { PackedTo window.columns window.rows cells.now planes.new (y * row_bytes window.columns + row_bytes window.columns) }
 {
-    let full = columns / 8;
+    let full = window.columns / 8;
     for b in 0..full {
-        write_place(columns, rows, cells, y, b, 8, planes);
+        write_place(window, cells, y, b, 8, planes);
     }
-    let pixels = columns % 8;
+    let pixels = window.columns % 8;
     if pixels != 0 {
-        write_place(columns, rows, cells, y, full, pixels, planes);
+        write_place(window, cells, y, full, pixels, planes);
     }
 }
 
 // Writes byte b of row y in all eight planes: so many pixels, which are eight or the row's last.
-fn write_place(
-    columns: usize,
-    rows: usize,
-    cells: &[u8],
-    y: usize,
-    b: usize,
-    pixels: usize,
-    planes: &mut [u8],
-)
-    requires { Packable columns rows cells.now × (y < rows) × (8 * b < columns) × (8 * b + pixels ≤ columns) × (pixels ≤ 8) × ((pixels ≡ 8) ⊎ (8 * b + pixels ≡ columns)) × PackedTo columns rows cells.now planes.old (y * row_bytes columns + b) }
-    ensures { PackedTo columns rows cells.now planes.new (y * row_bytes columns + b + 1) }
+fn write_place(window: Window, cells: &[u8], y: usize, b: usize, pixels: usize, planes: &mut [u8])
+    requires { Packable window.columns window.rows cells.now × (y < window.rows) × (8 * b < window.columns) × (8 * b + pixels ≤ window.columns) × (pixels ≤ 8) × ((pixels ≡ 8) ⊎ (8 * b + pixels ≡ window.columns)) × PackedTo window.columns window.rows cells.now planes.old (y * row_bytes window.columns + b) }
+    ensures { PackedTo window.columns window.rows cells.now planes.new (y * row_bytes window.columns + b + 1) }
 {
-    let bytes = row_bytes(columns);
-    let plane = rows * bytes;
-    let word = word_of(cells, y * columns + 8 * b, pixels);
+    let bytes = window.row_bytes();
+    let plane = window.plane_length();
+    let word = word_of(cells, y * window.columns + 8 * b, pixels);
     put_word(word, plane, y * bytes + b, planes);
 }
 

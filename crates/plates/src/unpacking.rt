@@ -1,99 +1,210 @@
 // Unpacking: from planes to cells.
-ghost use Rattle.std.specs.Prelude.{◌≡◌, ◌&&◌, ◌+◌, ◌*◌, ◌≤◌, ◌<◌, length};
+ghost use Rattle.std.specs.Prelude.{ℕ, ◌≡◌, ◌&&◌, ◌+◌, ◌*◌, ◌≤◌, ◌<◌, length, get_or};
+ghost use Rattle.arith.specs.Refusal.{number_of};
 ghost use Rattle.arith.specs.Run.{upto};
 ghost use Rattle.plates.specs.Planes.{row_bytes, planes_length, cells_length, cells_of, pixels_once, padding_clear};
 ghost use Rattle.plates.specs.Places.{byte_at, once_at, row_once, full_mask, Unpackable, Roomy, WrittenTo, Apart, colorant_at, row_of, sum_at};
 ghost use Rattle.plates.specs.Refusals.{unpack_refusal, unpacked};
 
-use crate::{lengths_refusal, mask_of, on_sheet, row_bytes};
+use crate::window::Window;
+use crate::{check_lengths, mask_of};
+use arith::Refusal;
 
-// Unpacks the eight planes of a window into its cells and answers 0, or answers what refuses them and
-// writes nothing.
-pub fn unpack(columns: u32, rows: u32, planes: &[u8], cells: &mut [u8]) -> u32
-    ensures answer { result ≡ unpack_refusal columns rows planes.now (length cells.old) }
+// Unpacks the eight planes of a window into its cells, or answers what refuses them and writes nothing.
+pub fn unpack(columns: u32, rows: u32, planes: &[u8], cells: &mut [u8]) -> Result<(), Refusal>
+    ensures refused { number_of result ≡ unpack_refusal columns rows planes.now (length cells.old) }
     ensures memory { cells.new ≡ unpacked columns rows planes.now cells.old }
 {
-    if !on_sheet(columns, rows) {
-        return 5;
+    let window = Window::new(columns, rows)?;
+    check_lengths(
+        planes.len(),
+        window.planes_length(),
+        cells.len(),
+        window.cells_length(),
+    )?;
+    let eight = Planes::new(window, planes);
+    if !eight.sound() {
+        return Err(Refusal::Plates);
     }
-    let wide = columns as usize;
-    let high = rows as usize;
-    let stated = 8 * high * row_bytes(wide);
-    let due = wide * high;
-    let refused = lengths_refusal(planes.len(), stated, cells.len(), due);
-    if refused != 0 {
-        return refused;
-    }
-    if !planes_sound(wide, high, planes) {
-        return 9;
-    }
-    write_cells(wide, high, planes, cells);
-    0
+    eight.write_cells(cells);
+    Ok(())
 }
 
-// Whether each pixel of a window is in exactly one plane, and no bit past the last column is set.
-fn planes_sound(columns: usize, rows: usize, planes: &[u8]) -> bool
-    requires { (columns ≤ 65536) × (length planes.now ≡ planes_length columns rows) }
-    ensures { result ≡ pixels_once columns rows planes.now && padding_clear columns rows planes.now }
-{
-    let bytes = row_bytes(columns);
-    let plane = rows * bytes;
-    for y in 0..rows {
-        if !row_sound(columns, plane, planes, y * bytes) {
-            return false;
+// The eight planes of a window.
+#[derive(Clone, Copy)]
+struct Planes<'a> {
+    window: Window,
+    bytes: &'a [u8],
+    // how many bytes each plane has
+    plane: usize,
+    ghost one: { plane ≡ window.rows * row_bytes window.columns },
+    ghost eight: { length bytes.now ≡ 8 * plane },
+    ghost small: { (i : ℕ) → get_or bytes.now i 0 < 256 },
+}
+
+impl<'a> Planes<'a> {
+    fn new(window: Window, bytes: &'a [u8]) -> Planes<'a>
+        requires { length bytes.now ≡ planes_length window.columns window.rows }
+        ensures same_window { result.window ≡ window }
+        ensures same_bytes { result.bytes.now ≡ bytes.now }
+    {
+        Planes {
+            window,
+            bytes,
+            plane: window.plane_length(),
         }
     }
-    true
-}
 
-// The same of the row that begins at a place of the planes. All its places are tested for eight pixels
-// without an early end, so that the compiler tests many at once: as many must pass as the columns have
-// eights. A last place of fewer pixels is tested by itself; if it is as it should be, it is not among those
-// that passed.
-#[tactic(auto, using(crate::proofs::UnpackLoops::full_end, crate::proofs::UnpackLoops::full_last))]
-fn row_sound(columns: usize, plane: usize, planes: &[u8], start: usize) -> bool
-    requires { (columns ≤ 65536) × (start + row_bytes columns ≤ plane) × (length planes.now ≡ 8 * plane) }
-    ensures { result ≡ row_once columns plane planes.now start }
-{
-    let mut passed = 0u16;
-    for b in 0..row_bytes(columns) {
-        if once_at(plane, planes, start + b, 8) {
-            passed += 1;
+    // Whether each pixel of the window is in exactly one plane, and no bit past the last column is set.
+    fn sound(self) -> bool
+        ensures { result ≡ pixels_once self.entry.window.columns self.entry.window.rows self.entry.bytes.now && padding_clear self.entry.window.columns self.entry.window.rows self.entry.bytes.now }
+    {
+        let bytes = self.window.row_bytes();
+        for y in 0..self.window.rows {
+            if !self.row_sound(y * bytes) {
+                return false;
+            }
+        }
+        true
+    }
+
+    // The same of the row that begins at a place of the planes. All its places are tested for eight pixels
+    // without an early end, so that the compiler tests many at once: as many must pass as the columns have
+    // eights. A last place of fewer pixels is tested by itself; if it is as it should be, it is not among
+    // those that passed.
+    #[tactic(auto, using(crate::proofs::UnpackLoops::full_end, crate::proofs::UnpackLoops::full_last))]
+    fn row_sound(self, start: usize) -> bool
+        requires { start + row_bytes self.window.columns ≤ self.plane }
+        ensures { result ≡ row_once self.entry.window.columns self.entry.plane self.entry.bytes.now start }
+    {
+        let columns = self.window.columns;
+        let mut passed = 0u16;
+        for b in 0..self.window.row_bytes() {
+            if self.once_at(start + b, 8) {
+                passed += 1;
+            }
+        }
+        let full = columns / 8;
+        let sound = passed as usize == full;
+        let pixels = columns % 8;
+        if pixels == 0 {
+            return sound;
+        }
+        sound & self.once_at(start + full, pixels)
+    }
+
+    // Whether each of a place's first pixels is in exactly one plane, and each after them in none: the eight
+    // bytes' sum and their union both are these pixels' masks. If the union is, each of them is in a plane
+    // and no bit after them is set; if the sum is too, none is in two planes.
+    fn once_at(self, place: usize, pixels: usize) -> bool
+        requires few { pixels ≤ 8 }
+        requires there { place < self.plane }
+        ensures { result ≡ once_at self.entry.plane self.entry.bytes.now place pixels }
+    {
+        let full = full_mask(pixels);
+        let mut sum = 0;
+        let mut union = 0;
+        for p in 0..8 {
+            let byte = u16::from(self.byte_at(place, p));
+            sum += byte;
+            union = union | byte;
+        }
+        (sum == full) & (union == full)
+    }
+
+    // The byte of plane p at a place.
+    fn byte_at(self, place: usize, p: usize) -> u8
+        requires there { place < self.plane }
+        requires plane { p < 8 }
+        ensures { result ≡ byte_at self.entry.plane self.entry.bytes.now place p }
+    {
+        self.bytes[p * self.plane + place]
+    }
+
+    // Writes the colorants of all pixels. Where rows have eight columns or more, each but the last is written
+    // with eight pixels at its last place too, so that it has places of eight pixels only; the next row, which
+    // has room for the surplus, is then written over it. For a single place this does not pay.
+    fn write_cells(self, cells: &mut [u8])
+        requires right { Unpackable self.window.columns self.window.rows self.bytes.now }
+        requires long { length cells.old ≡ cells_length self.window.columns self.window.rows }
+        ensures { cells.new ≡ cells_of self.entry.window.columns self.entry.window.rows self.entry.bytes.now }
+    {
+        let columns = self.window.columns;
+        let rows = self.window.rows;
+        if rows == 0 {
+            return;
+        }
+        let mut roomy = 0;
+        if columns >= 8 {
+            roomy = rows - 1;
+        }
+        let whole = 8 * self.window.row_bytes();
+        self.write_rows(0, roomy, whole, cells);
+        self.write_rows(roomy, rows, columns, cells);
+    }
+
+    // Writes the rows from one up to another, those before them being written, and so many pixels of each: its
+    // columns, or eight at its last place too.
+    fn write_rows(self, from: usize, to: usize, pixels: usize, cells: &mut [u8])
+        requires right { Unpackable self.window.columns self.window.rows self.bytes.now }
+        requires roomy { Roomy self.window.columns self.window.rows to pixels }
+        requires before { WrittenTo self.window.columns self.window.rows self.bytes.now cells.old (from * self.window.columns) }
+        ensures { WrittenTo self.entry.window.columns self.entry.window.rows self.entry.bytes.now cells.new (to * self.entry.window.columns) }
+    {
+        let bytes = self.window.row_bytes();
+        for y in from..to {
+            let first = y * self.window.columns;
+            self.write_row(y * bytes, &mut cells[first..first + pixels]);
         }
     }
-    let full = columns / 8;
-    let sound = passed as usize == full;
-    let pixels = columns % 8;
-    if pixels == 0 {
-        return sound;
-    }
-    sound & once_at(plane, planes, start + full, pixels)
-}
 
-// Whether each of a place's first pixels is in exactly one plane, and each after them in none: the eight
-// bytes' sum and their union both are these pixels' masks. If the union is, each of them is in a plane
-// and no bit after them is set; if the sum is too, none is in two planes.
-fn once_at(plane: usize, planes: &[u8], place: usize, pixels: usize) -> bool
-    requires { (pixels ≤ 8) × (place < plane) × (length planes.now ≡ 8 * plane) }
-    ensures { result ≡ once_at plane planes.now place pixels }
-{
-    let full = full_mask(pixels);
-    let mut sum = 0;
-    let mut union = 0;
-    for p in 0..8 {
-        let byte = byte_at(plane, planes, place, p) as u16;
-        sum += byte;
-        union = union | byte;
+    // Writes the colorants of the pixels from a place of the planes on, one for each cell that is lent.
+    fn write_row(self, start: usize, out: &mut [u8])
+        requires there { start + row_bytes (length out.old) ≤ self.plane }
+        requires apart { Apart self.plane self.bytes.now }
+        ensures { out.new ≡ upto (row_of self.entry.plane self.entry.bytes.now start) (length out.old) }
+    {
+        let count = out.len();
+        let full = count / 8;
+        for b in 0..full {
+            let first = 8 * b;
+            self.write_pixels(start + b, &mut out[first..first + 8]);
+        }
+        if count % 8 != 0 {
+            self.write_pixels(start + full, &mut out[8 * full..]);
+        }
     }
-    (sum == full) & (union == full)
-}
 
-// The byte of plane p at a place.
-fn byte_at(plane: usize, planes: &[u8], place: usize, p: usize) -> u8
-    requires { (place < plane) × (length planes.now ≡ 8 * plane) × (p < 8) }
-    ensures { result ≡ byte_at plane planes.now place p }
-{
-    planes[p * plane + place]
+    // Writes the colorants of a place's first pixels. Since none is in two planes, the bytes of several planes
+    // add up to their union; and a colorant has the bit 1, 2 or 4 where its pixel is in one of the planes
+    // whose numbers have that bit.
+    fn write_pixels(self, place: usize, out: &mut [u8])
+        requires there { place < self.plane }
+        requires few { length out.old ≤ 8 }
+        requires apart { Apart self.plane self.bytes.now }
+        ensures { out.new ≡ upto (colorant_at self.entry.plane self.entry.bytes.now place) (length out.old) }
+    {
+        let ones = self.sum_of(place, 1, 3, 5, 7);
+        let twos = self.sum_of(place, 2, 3, 6, 7);
+        let fours = self.sum_of(place, 4, 5, 6, 7);
+        for t in 0..out.len() {
+            let mask = mask_of(t);
+            out[t] = ones / mask % 2 + 2 * (twos / mask % 2) + 4 * (fours / mask % 2);
+        }
+    }
+
+    // The bytes of four planes at a place, added up.
+    fn sum_of(self, place: usize, p: usize, q: usize, r: usize, s: usize) -> u8
+        requires there { place < self.plane }
+        requires planes { (p < 8) × (q < 8) × (r < 8) × (s < 8) }
+        requires fits { sum_at self.plane self.bytes.now place p q r s < 256 }
+        ensures { result ≡ sum_at self.entry.plane self.entry.bytes.now place p q r s }
+    {
+        self.byte_at(place, p)
+            + self.byte_at(place, q)
+            + self.byte_at(place, r)
+            + self.byte_at(place, s)
+    }
 }
 
 // The masks of a place's first pixels, added up.
@@ -102,93 +213,4 @@ fn full_mask(pixels: usize) -> u16
     ensures { result ≡ full_mask pixels }
 {
     256 - (256 >> pixels)
-}
-
-// Writes the colorants of all pixels. Where rows have eight columns or more, each but the last is written with
-// eight pixels at its last place too, so that it has places of eight pixels only; the next row, which has
-// room for the surplus, is then written over it. For a single place this does not pay.
-fn write_cells(columns: usize, rows: usize, planes: &[u8], cells: &mut [u8])
-    requires { Unpackable columns rows planes.now × (length cells.old ≡ cells_length columns rows) }
-    ensures { cells.new ≡ cells_of columns rows planes.now }
-{
-    if rows == 0 {
-        return;
-    }
-    let mut roomy = 0;
-    if columns >= 8 {
-        roomy = rows - 1;
-    }
-    let whole = 8 * row_bytes(columns);
-    write_rows(columns, rows, planes, 0, roomy, whole, cells);
-    write_rows(columns, rows, planes, roomy, rows, columns, cells);
-}
-
-// Writes the rows from one up to another, those before them being written, and so many pixels of each: its
-// columns, or eight at its last place too.
-fn write_rows(
-    columns: usize,
-    rows: usize,
-    planes: &[u8],
-    from: usize,
-    to: usize,
-    pixels: usize,
-    cells: &mut [u8],
-)
-    requires { Unpackable columns rows planes.now × Roomy columns rows to pixels × WrittenTo columns rows planes.now cells.old (from * columns) }
-    ensures { WrittenTo columns rows planes.now cells.new (to * columns) }
-{
-    let bytes = row_bytes(columns);
-    let plane = rows * bytes;
-    for y in from..to {
-        let first = y * columns;
-        let next = first + pixels;
-        write_row(plane, planes, y * bytes, &mut cells[first..next]);
-    }
-}
-
-// Writes the colorants of the pixels from a place of the planes on, one for each cell that is lent.
-fn write_row(plane: usize, planes: &[u8], start: usize, out: &mut [u8])
-    requires { (start + row_bytes (length out.old) ≤ plane) × (length planes.now ≡ 8 * plane) × Apart plane planes.now }
-    ensures { out.new ≡ upto (row_of plane planes.now start) (length out.old) }
-{
-    let count = out.len();
-    let full = count / 8;
-    for b in 0..full {
-        let first = 8 * b;
-        let next = first + 8;
-        write_pixels(plane, planes, start + b, &mut out[first..next]);
-    }
-    let pixels = count % 8;
-    if pixels != 0 {
-        let first = 8 * full;
-        let next = first + pixels;
-        write_pixels(plane, planes, start + full, &mut out[first..next]);
-    }
-}
-
-// Writes the colorants of a place's first pixels. Since none is in two planes, the bytes of several planes
-// add up to their union; and a colorant has the bit 1, 2 or 4 where its pixel is in one of the planes
-// whose numbers have that bit.
-fn write_pixels(plane: usize, planes: &[u8], place: usize, out: &mut [u8])
-    requires { (place < plane) × (length planes.now ≡ 8 * plane) × (length out.old ≤ 8) × Apart plane planes.now }
-    ensures { out.new ≡ upto (colorant_at plane planes.now place) (length out.old) }
-{
-    let ones = sum_of(plane, planes, place, 1, 3, 5, 7);
-    let twos = sum_of(plane, planes, place, 2, 3, 6, 7);
-    let fours = sum_of(plane, planes, place, 4, 5, 6, 7);
-    for t in 0..out.len() {
-        let mask = mask_of(t);
-        out[t] = ones / mask % 2 + 2 * (twos / mask % 2) + 4 * (fours / mask % 2);
-    }
-}
-
-// The bytes of four planes at a place, added up.
-fn sum_of(plane: usize, planes: &[u8], place: usize, p: usize, q: usize, r: usize, s: usize) -> u8
-    requires { (place < plane) × (length planes.now ≡ 8 * plane) × (p < 8) × (q < 8) × (r < 8) × (s < 8) × (sum_at plane planes.now place p q r s < 256) }
-    ensures { result ≡ sum_at plane planes.now place p q r s }
-{
-    byte_at(plane, planes, place, p)
-        + byte_at(plane, planes, place, q)
-        + byte_at(plane, planes, place, r)
-        + byte_at(plane, planes, place, s)
 }

@@ -3,6 +3,9 @@
 // print.
 #![tactic(auto)]
 
+use arith::Refusal;
+use std::fmt;
+
 // 36 colorants, all eight among them.
 const CELLS: [u8; 36] = [
     0, 1, 2, 3, 4, 5, 6, 7, 7, 0, 5, 2, 7, 4, 1, 6, 3, 0, 0, 0, 6, 6, 1, 3, 5, 7, 2, 4, 4, 3, 2, 1,
@@ -15,248 +18,289 @@ const PLANES: [u8; 20] = [
     255, 0, 0, 0, 0, 0, 0, 0, 0, 0, 0, 0, 0, 0, 0, 128, 170, 170, 170, 170,
 ];
 
-fn main() {
-    io::write_all(
-        1,
-        b"# columns rows: refusal of packing; the planes, every place 170 before; refusal of unpacking; the cells, every place 255 before\n",
-    );
-    round_trips();
-    io::write_all(
-        1,
-        b"# columns rows, cells planes: refusal of packing; the planes\n",
-    );
-    packing_sizes();
-    packing_bytes();
-    io::write_all(
-        1,
-        b"# columns rows, planes cells: refusal of unpacking; the cells\n",
-    );
-    unpacking_sizes();
-    pixels();
-    padding();
-    lowest_first();
+// A window, and how many bytes of its input and of its output are lent.
+#[derive(Clone, Copy)]
+struct Call {
+    columns: u32,
+    rows: u32,
+    input: usize,
+    output: usize,
 }
 
-fn round_trips() {
-    round_trip(0, 0, 0, 0);
-    round_trip(0, 2, 0, 0);
-    round_trip(1, 0, 0, 0);
-    round_trip(1, 2, 2, 16);
-    round_trip(7, 0, 0, 0);
-    round_trip(7, 2, 14, 16);
-    round_trip(8, 0, 0, 0);
-    round_trip(8, 2, 16, 16);
-    round_trip(9, 0, 0, 0);
-    round_trip(9, 2, 18, 32);
-    round_trip(16, 0, 0, 0);
-    round_trip(16, 2, 32, 32);
-    round_trip(17, 0, 0, 0);
-    round_trip(17, 2, 34, 48);
+impl Call {
+    fn new(columns: u32, rows: u32, input: usize, output: usize) -> Call {
+        Call {
+            columns,
+            rows,
+            input,
+            output,
+        }
+    }
+}
+
+// Standard output.
+#[derive(Clone, Copy)]
+struct Out;
+
+impl fmt::Write for Out {
+    fn write_str(&mut self, text: &str) -> fmt::Result {
+        if io::write_all(1, text.as_bytes()) {
+            Ok(())
+        } else {
+            Err(fmt::Error)
+        }
+    }
+}
+
+fn main() {
+    let _ = show_all(&mut Out);
+}
+
+fn show_all(out: &mut impl fmt::Write) -> fmt::Result {
+    writeln!(
+        out,
+        "# columns rows: refusal of packing; the planes, every place 170 before; refusal of unpacking; the cells, every place 255 before"
+    )?;
+    round_trips(out)?;
+    writeln!(
+        out,
+        "# columns rows, cells planes: refusal of packing; the planes"
+    )?;
+    packing_sizes(out)?;
+    packing_bytes(out)?;
+    writeln!(
+        out,
+        "# columns rows, planes cells: refusal of unpacking; the cells"
+    )?;
+    unpacking_sizes(out)?;
+    pixels(out)?;
+    padding(out)?;
+    lowest_first(out)
+}
+
+fn round_trips(out: &mut impl fmt::Write) -> fmt::Result {
+    let calls = [
+        Call::new(0, 0, 0, 0),
+        Call::new(0, 2, 0, 0),
+        Call::new(1, 0, 0, 0),
+        Call::new(1, 2, 2, 16),
+        Call::new(7, 0, 0, 0),
+        Call::new(7, 2, 14, 16),
+        Call::new(8, 0, 0, 0),
+        Call::new(8, 2, 16, 16),
+        Call::new(9, 0, 0, 0),
+        Call::new(9, 2, 18, 32),
+        Call::new(16, 0, 0, 0),
+        Call::new(16, 2, 32, 32),
+        Call::new(17, 0, 0, 0),
+        Call::new(17, 2, 34, 48),
+    ];
+    for call in calls {
+        round_trip(out, call)?;
+    }
+    Ok(())
 }
 
 // Refusals 5, 6 and 7 of packing: the sheet's edge, and lengths one short and one long.
-fn packing_sizes() {
-    show_packing(9, 2, 18, 32, &CELLS);
-    show_packing(9, 2, 17, 32, &CELLS);
-    show_packing(9, 2, 19, 32, &CELLS);
-    show_packing(9, 2, 18, 31, &CELLS);
-    show_packing(9, 2, 18, 33, &CELLS);
-    show_packing(9, 2, 17, 31, &CELLS);
-    show_packing(65536, 0, 0, 0, &CELLS);
-    show_packing(65537, 0, 0, 0, &CELLS);
-    show_packing(1, 65536, 0, 0, &CELLS);
-    show_packing(1, 65537, 0, 0, &CELLS);
-    show_packing(65536, 65536, 0, 0, &CELLS);
-    show_packing(4294967295, 4294967295, 1, 1, &CELLS);
+fn packing_sizes(out: &mut impl fmt::Write) -> fmt::Result {
+    let calls = [
+        Call::new(9, 2, 18, 32),
+        Call::new(9, 2, 17, 32),
+        Call::new(9, 2, 19, 32),
+        Call::new(9, 2, 18, 31),
+        Call::new(9, 2, 18, 33),
+        Call::new(9, 2, 17, 31),
+        Call::new(65536, 0, 0, 0),
+        Call::new(65537, 0, 0, 0),
+        Call::new(1, 65536, 0, 0),
+        Call::new(1, 65537, 0, 0),
+        Call::new(65536, 65536, 0, 0),
+        Call::new(4294967295, 4294967295, 1, 1),
+    ];
+    for call in calls {
+        show_packing(out, call, &CELLS)?;
+    }
+    Ok(())
 }
 
 // Refusal 9 of packing: bytes of 7, 8 and 255, first, last and past the last cell.
-fn packing_bytes() {
+fn packing_bytes(out: &mut impl fmt::Write) -> fmt::Result {
     let mut cells = CELLS;
     cells[0] = 8;
-    show_packing(9, 2, 18, 32, &cells);
-    show_packing(9, 2, 17, 32, &cells);
-    show_packing(9, 2, 18, 31, &cells);
+    show_packing(out, Call::new(9, 2, 18, 32), &cells)?;
+    show_packing(out, Call::new(9, 2, 17, 32), &cells)?;
+    show_packing(out, Call::new(9, 2, 18, 31), &cells)?;
     cells[0] = 7;
     cells[17] = 255;
-    show_packing(9, 2, 18, 32, &cells);
+    show_packing(out, Call::new(9, 2, 18, 32), &cells)?;
     cells[17] = 7;
     cells[18] = 8;
-    show_packing(9, 2, 18, 32, &cells);
+    show_packing(out, Call::new(9, 2, 18, 32), &cells)
 }
 
 // Refusals 5, 6 and 7 of unpacking.
-fn unpacking_sizes() {
-    show_unpacking(9, 1, 16, 9, &PLANES);
-    show_unpacking(9, 1, 15, 9, &PLANES);
-    show_unpacking(9, 1, 17, 9, &PLANES);
-    show_unpacking(9, 1, 16, 8, &PLANES);
-    show_unpacking(9, 1, 16, 10, &PLANES);
-    show_unpacking(9, 1, 15, 8, &PLANES);
-    show_unpacking(65536, 0, 0, 0, &PLANES);
-    show_unpacking(65537, 0, 0, 0, &PLANES);
-    show_unpacking(1, 65536, 0, 0, &PLANES);
-    show_unpacking(1, 65537, 0, 0, &PLANES);
-    show_unpacking(65536, 65536, 0, 0, &PLANES);
-    show_unpacking(4294967295, 4294967295, 1, 1, &PLANES);
+fn unpacking_sizes(out: &mut impl fmt::Write) -> fmt::Result {
+    let calls = [
+        Call::new(9, 1, 16, 9),
+        Call::new(9, 1, 15, 9),
+        Call::new(9, 1, 17, 9),
+        Call::new(9, 1, 16, 8),
+        Call::new(9, 1, 16, 10),
+        Call::new(9, 1, 15, 8),
+        Call::new(65536, 0, 0, 0),
+        Call::new(65537, 0, 0, 0),
+        Call::new(1, 65536, 0, 0),
+        Call::new(1, 65537, 0, 0),
+        Call::new(65536, 65536, 0, 0),
+        Call::new(4294967295, 4294967295, 1, 1),
+    ];
+    for call in calls {
+        show_unpacking(out, call, &PLANES)?;
+    }
+    Ok(())
 }
 
-// Refusal 9 of unpacking: rule 11.13's example; a pixel in no plane, in two, and both with as many bits as pixels.
-fn pixels() {
+// Refusal 9 of unpacking: rule 11.13's example; a pixel in no plane, in two, and both with as many bits as
+// pixels.
+fn pixels(out: &mut impl fmt::Write) -> fmt::Result {
+    let one = Call::new(1, 1, 8, 1);
     let mut planes = PLANES;
     planes[0] = 128;
     planes[1] = 128;
     planes[15] = 0;
-    show_unpacking(1, 1, 8, 1, &planes);
+    show_unpacking(out, one, &planes)?;
     planes[1] = 0;
-    show_unpacking(1, 1, 8, 1, &planes);
+    show_unpacking(out, one, &planes)?;
     planes[0] = 0;
-    show_unpacking(1, 1, 8, 1, &planes);
+    show_unpacking(out, one, &planes)?;
     planes[7] = 128;
-    show_unpacking(1, 1, 8, 1, &planes);
+    show_unpacking(out, one, &planes)?;
+    let nine = Call::new(9, 1, 16, 9);
     planes = PLANES;
     planes[0] = 254;
-    show_unpacking(9, 1, 16, 9, &planes);
+    show_unpacking(out, nine, &planes)?;
     planes[0] = 255;
     planes[14] = 1;
-    show_unpacking(9, 1, 16, 9, &planes);
+    show_unpacking(out, nine, &planes)?;
     planes[0] = 254;
-    show_unpacking(9, 1, 16, 9, &planes);
+    show_unpacking(out, nine, &planes)?;
     planes = PLANES;
     planes[15] = 0;
-    show_unpacking(9, 1, 16, 9, &planes);
+    show_unpacking(out, nine, &planes)?;
     planes[1] = 128;
     planes[15] = 128;
-    show_unpacking(9, 1, 16, 9, &planes);
+    show_unpacking(out, nine, &planes)?;
     planes[0] = 254;
-    show_unpacking(9, 1, 16, 9, &planes);
+    show_unpacking(out, nine, &planes)
 }
 
 // Refusal 9 of unpacking: padding set in the first and in the last plane, first and last padding bit.
-fn padding() {
-    let mut planes = PLANES;
-    planes[1] = 64;
-    show_unpacking(9, 1, 16, 9, &planes);
-    planes[1] = 1;
-    show_unpacking(9, 1, 16, 9, &planes);
-    planes = PLANES;
-    planes[15] = 192;
-    show_unpacking(9, 1, 16, 9, &planes);
-    planes[15] = 129;
-    show_unpacking(9, 1, 16, 9, &planes);
-    planes = PLANES;
-    planes[7] = 32;
-    show_unpacking(9, 1, 16, 9, &planes);
+fn padding(out: &mut impl fmt::Write) -> fmt::Result {
+    let nine = Call::new(9, 1, 16, 9);
+    for (place, byte) in [(1usize, 64u8), (1, 1), (15, 192), (15, 129), (7, 32)] {
+        let mut planes = PLANES;
+        if place < planes.len() {
+            planes[place] = byte;
+        }
+        show_unpacking(out, nine, &planes)?;
+    }
+    Ok(())
 }
 
 // Of several refusals the lowest number is answered.
-fn lowest_first() {
+fn lowest_first(out: &mut impl fmt::Write) -> fmt::Result {
     let mut planes = PLANES;
     planes[1] = 1;
-    show_unpacking(9, 1, 15, 9, &planes);
-    show_unpacking(9, 1, 16, 8, &planes);
-    show_unpacking(65537, 1, 16, 8, &planes);
-    show_unpacking(0, 2, 0, 0, &planes);
+    for call in [
+        Call::new(9, 1, 15, 9),
+        Call::new(9, 1, 16, 8),
+        Call::new(65537, 1, 16, 8),
+        Call::new(0, 2, 0, 0),
+    ] {
+        show_unpacking(out, call, &planes)?;
+    }
+    Ok(())
 }
 
 // Packs the first cells, unpacks the planes again, and shows both memories.
-fn round_trip(columns: u32, rows: u32, cells: usize, places: usize) {
+fn round_trip(out: &mut impl fmt::Write, call: Call) -> fmt::Result {
     let mut planes = [170u8; 52];
-    let packing = pack_first(columns, rows, &CELLS, cells, &mut planes, places);
+    let packing = number(pack_first(call, &CELLS, &mut planes));
     let mut back = [255u8; 36];
-    let unpacking = unpack_first(columns, rows, &planes, places, &mut back, cells);
-    number(columns);
-    spaced(rows);
-    io::write_all(1, b": ");
-    number(packing);
-    io::write_all(1, b";");
-    show_all(&planes);
-    io::write_all(1, b"; ");
-    number(unpacking);
-    io::write_all(1, b";");
-    show_all(&back);
-    io::write_all(1, b"\n");
+    let unpacking = number(unpack_first(
+        Call {
+            input: call.output,
+            output: call.input,
+            ..call
+        },
+        &planes,
+        &mut back,
+    ));
+    writeln!(
+        out,
+        "{} {}: {packing};{}; {unpacking};{}",
+        call.columns,
+        call.rows,
+        Spaced(&planes),
+        Spaced(&back)
+    )
 }
 
-fn show_packing(columns: u32, rows: u32, cells: usize, places: usize, from: &[u8]) {
+fn show_packing(out: &mut impl fmt::Write, call: Call, from: &[u8]) -> fmt::Result {
     let mut planes = [170u8; 36];
-    let refusal = pack_first(columns, rows, from, cells, &mut planes, places);
-    show_call(columns, rows, cells, places, refusal);
-    show_all(&planes);
-    io::write_all(1, b"\n");
+    let refusal = number(pack_first(call, from, &mut planes));
+    writeln!(out, "{call}: {refusal};{}", Spaced(&planes))
 }
 
-fn show_unpacking(columns: u32, rows: u32, places: usize, cells: usize, from: &[u8]) {
+fn show_unpacking(out: &mut impl fmt::Write, call: Call, from: &[u8]) -> fmt::Result {
     let mut back = [255u8; 12];
-    let refusal = unpack_first(columns, rows, from, places, &mut back, cells);
-    show_call(columns, rows, places, cells, refusal);
-    show_all(&back);
-    io::write_all(1, b"\n");
+    let refusal = number(unpack_first(call, from, &mut back));
+    writeln!(out, "{call}: {refusal};{}", Spaced(&back))
 }
 
-fn show_call(columns: u32, rows: u32, input: usize, output: usize, refusal: u32) {
-    number(columns);
-    spaced(rows);
-    io::write_all(1, b", ");
-    io::print_decimal(1, input as u64);
-    io::write_all(1, b" ");
-    io::print_decimal(1, output as u64);
-    io::write_all(1, b": ");
-    number(refusal);
-    io::write_all(1, b";");
+// Packs the first cells into the first places of the planes; nothing where there are not so many.
+fn pack_first(call: Call, cells: &[u8], planes: &mut [u8]) -> Option<Result<(), Refusal>> {
+    let input = cells.get(..call.input)?;
+    let output = planes.get_mut(..call.output)?;
+    Some(plates::pack(call.columns, call.rows, input, output))
 }
 
-// Packs the first cells into the first places of the planes; 1000 where there are not so many.
-fn pack_first(
-    columns: u32,
-    rows: u32,
-    cells: &[u8],
-    count: usize,
-    planes: &mut [u8],
-    places: usize,
-) -> u32 {
-    if cells.len() < count {
-        return 1000;
-    }
-    if planes.len() < places {
-        return 1000;
-    }
-    plates::pack(columns, rows, &cells[0..count], &mut planes[0..places])
+// Unpacks the first places of the planes into the first cells; nothing where there are not so many.
+fn unpack_first(call: Call, planes: &[u8], cells: &mut [u8]) -> Option<Result<(), Refusal>> {
+    let input = planes.get(..call.input)?;
+    let output = cells.get_mut(..call.output)?;
+    Some(plates::unpack(call.columns, call.rows, input, output))
 }
 
-// Unpacks the first places of the planes into the first cells; 1000 where there are not so many.
-fn unpack_first(
-    columns: u32,
-    rows: u32,
-    planes: &[u8],
-    places: usize,
-    cells: &mut [u8],
-    count: usize,
-) -> u32 {
-    if planes.len() < places {
-        return 1000;
-    }
-    if cells.len() < count {
-        return 1000;
-    }
-    plates::unpack(columns, rows, &planes[0..places], &mut cells[0..count])
-}
-
-fn show_all(bytes: &[u8]) {
-    for i in 0..bytes.len() {
-        spaced(wide(bytes[i]));
+// The number of what a call answers: 0 where it is served, and else its refusal's; 1000 where it was not
+// made.
+fn number(answer: Option<Result<(), Refusal>>) -> u32 {
+    match answer {
+        Some(Ok(())) => 0,
+        Some(Err(refusal)) => u32::from(refusal),
+        None => 1000,
     }
 }
 
-fn wide(n: u8) -> u32 {
-    n as u32
+impl fmt::Display for Call {
+    fn fmt<W: fmt::Write>(&self, f: &mut fmt::Formatter<W>) -> fmt::Result {
+        write!(
+            f,
+            "{} {}, {} {}",
+            self.columns, self.rows, self.input, self.output
+        )
+    }
 }
 
-fn spaced(n: u32) {
-    io::write_all(1, b" ");
-    number(n);
-}
+// Bytes, each after a space.
+#[derive(Clone, Copy)]
+struct Spaced<'a>(&'a [u8]);
 
-fn number(n: u32) {
-    io::print_decimal(1, n as u64);
+impl fmt::Display for Spaced<'_> {
+    fn fmt<W: fmt::Write>(&self, f: &mut fmt::Formatter<W>) -> fmt::Result {
+        for byte in self.0 {
+            write!(f, " {byte}")?;
+        }
+        Ok(())
+    }
 }

@@ -1,53 +1,46 @@
 -- `plates::packing::pack` meets its contract: each return is one law of Refusals. Assumes nothing.
 use mathlib.Core.Path.{◌∙◌}
-use native.Mathlib.Nat.{suc-ne-zero, mul-le-mul}
-use native.Mathlib.Omega.{arith}
+use Rattle.std.proofs.lemmas.Result.{err_from_is_err_and}
 use Rattle.arith.proofs.RefusalLaws.{failed, passed}
-use Rattle.arith.proofs.SheetLaws.{corner_kept}
-use Rattle.plates.proofs.PlaceLaws.{planes_few}
 use Rattle.plates.proofs.Refusals.{size_5, size_lengths, size_passed, size_kept, pack_size_lem, pack_9, pack_0}
 use Rattle.plates.proofs.packing.pack.Goals as goal
 
-pub returns-then-not-on_sheet : goal.returns-then-not-on_sheet
-returns-then-not-on_sheet c =
-    let told = pack_size_lem c.args.columns c.args.rows c.args.cells.now c.args.planes.now (size_5 _ _ _ _ _ _ (failed c.on_sheet.ensures c.if-not-on_sheet.true)) (suc-ne-zero 4) in
-    record { answer = told.0; memory = told.1 }
+pub returns-in_err-window : goal.returns-in_err-window
+returns-in_err-window c =
+    let p = err_from_is_err_and c.from_residual.result c.from_residual.ensures.1 in
+    let told = pack_size_lem c.args.columns c.args.rows c.args.cells.now c.args.planes.now _ (size_5 _ _ _ _ _ _ _ c.in_err-window.ensures.refused) in
+    rw (p.1, p.2) (record { refused = told.0; memory = told.1 })
 
-pub overflow_mul-stated : goal.overflow_mul-stated
-overflow_mul-stated c =
-    let sheet = corner_kept _ _ (passed c.on_sheet.ensures c.if-not-on_sheet.false) in
-    omega (arith, mul-le-mul sheet.0 sheet.1)
-
-pub row_bytes-requires : goal.row_bytes-requires
-row_bytes-requires c = (corner_kept _ _ (passed c.on_sheet.ensures c.if-not-on_sheet.false)).0
-
-pub overflow_mul-due-2 : goal.overflow_mul-due-2
-overflow_mul-due-2 c =
-    let sheet = corner_kept _ _ (passed c.on_sheet.ensures c.if-not-on_sheet.false) in
-    omega (arith, planes_few _ _ sheet.0 sheet.1 c.row_bytes.result c.row_bytes.ensures)
-
-pub returns-then-refused-ne0 : goal.returns-then-refused-ne0
-returns-then-refused-ne0 c =
-    let sheet = passed c.on_sheet.ensures c.if-not-on_sheet.false in
-    let told = pack_size_lem c.args.columns c.args.rows c.args.cells.now c.args.planes.now (c.lengths_refusal-refused.ensures ∙ rw c.row_bytes.ensures (size_lengths _ _ _ _ _ _ sheet)) c.if-refused-ne0.true in
-    record { answer = told.0; memory = told.1 }
+pub returns-in_err-check_lengths : goal.returns-in_err-check_lengths
+returns-in_err-check_lengths c =
+    let window = c.in_ok-window.window in
+    let same = c.in_ok-window.ensures.made in
+    let p = err_from_is_err_and c.from_residual-in_err-check_lengths.result c.from_residual-in_err-check_lengths.ensures.1 in
+    let lengths = rw (c.cells_length.ensures, c.planes_length.ensures) at c.in_err-check_lengths.ensures in
+    let told = pack_size_lem window.columns window.rows c.args.cells.now c.args.planes.now _ (lengths ∙ size_lengths _ _ _ _ _ _ window.wide window.high) in
+    rw (p.1, p.2, ← same.0, ← same.1) (record { refused = told.0; memory = told.1 })
 
 pub returns-then-not-colorants_only : goal.returns-then-not-colorants_only
 returns-then-not-colorants_only c =
-    let sheet = passed c.on_sheet.ensures c.if-not-on_sheet.false in
-    let size = size_passed _ _ _ _ _ _ sheet (rw c.row_bytes.ensures at c.lengths_refusal-refused.ensures) c.if-refused-ne0.false in
-    let told = pack_9 c.args.columns c.args.rows c.args.cells.now c.args.planes.now size (failed c.colorants_only.ensures c.if-not-colorants_only.true) in
-    record { answer = told.0; memory = told.1 }
+    let window = c.in_ok-window.window in
+    let same = c.in_ok-window.ensures.made in
+    let lengths = rw (c.cells_length.ensures, c.planes_length.ensures) at c.in_ok-check_lengths.ensures in
+    let size = size_passed _ _ _ _ _ _ window.wide window.high lengths in
+    let told = pack_9 window.columns window.rows c.args.cells.now c.args.planes.now size (failed c.colorants_only.ensures c.if-not-colorants_only.true) in
+    rw (← same.0, ← same.1) (record { refused = told.0; memory = told.1 })
 
 pub write_planes-requires : goal.write_planes-requires
 write_planes-requires c =
-    let sheet = passed c.on_sheet.ensures c.if-not-on_sheet.false in
-    let size = size_kept _ _ _ _ _ _ (size_passed _ _ _ _ _ _ sheet (rw c.row_bytes.ensures at c.lengths_refusal-refused.ensures) c.if-refused-ne0.false) in
-    (record { wide = (corner_kept _ _ sheet).0; long = size.1; only = passed c.colorants_only.ensures c.if-not-colorants_only.false }, size.2)
+    let window = c.in_ok-window.window in
+    let lengths = rw (c.cells_length.ensures, c.planes_length.ensures) at c.in_ok-check_lengths.ensures in
+    let size = size_kept _ _ _ _ _ _ (size_passed _ _ _ _ _ _ window.wide window.high lengths) in
+    (record { wide = window.wide; long = size.1; only = passed c.colorants_only.ensures c.if-not-colorants_only.false }, size.2)
 
 pub returns : goal.returns
 returns c =
-    let sheet = passed c.on_sheet.ensures c.if-not-on_sheet.false in
-    let size = size_passed _ _ _ _ _ _ sheet (rw c.row_bytes.ensures at c.lengths_refusal-refused.ensures) c.if-refused-ne0.false in
-    let whole = pack_0 _ _ _ _ size (passed c.colorants_only.ensures c.if-not-colorants_only.false) in
-    record { answer = whole.0; memory = c.write_planes.ensures ∙ whole.1 }
+    let window = c.in_ok-window.window in
+    let same = c.in_ok-window.ensures.made in
+    let lengths = rw (c.cells_length.ensures, c.planes_length.ensures) at c.in_ok-check_lengths.ensures in
+    let size = size_passed _ _ _ _ _ _ window.wide window.high lengths in
+    let whole = pack_0 window.columns window.rows _ _ size (passed c.colorants_only.ensures c.if-not-colorants_only.false) in
+    rw (← same.0, ← same.1) (record { refused = whole.0; memory = c.write_planes.ensures ∙ whole.1 })

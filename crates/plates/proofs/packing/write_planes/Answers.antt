@@ -20,5 +20,5 @@ shape_of-planes c = c.loop-y.invariant.1.size ∙ sym c.requires.1
 
 pub returns : goal.returns
 returns c =
-    let whole : c.loop-y.y ≡ c.args.rows = omega (arith, c.loop-y.invariant.0) in
-    packed_end _ _ _ (packed_at c.loop-y.invariant.1 (ap (λ (n : ℕ). n * row_bytes c.args.columns) whole))
+    let whole : c.loop-y.y ≡ c.args.window.rows = omega (arith, c.loop-y.invariant.0) in
+    packed_end _ _ _ (packed_at c.loop-y.invariant.1 (ap (λ (n : ℕ). n * row_bytes c.args.window.columns) whole))

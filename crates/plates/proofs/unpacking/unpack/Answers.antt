@@ -1,59 +1,60 @@
 -- `plates::unpacking::unpack` meets its contract: each return is one law of Refusals. Assumes nothing.
 use mathlib.Core.Path.{◌∙◌}
-use native.Mathlib.Nat.{suc-ne-zero, mul-le-mul}
 use native.Mathlib.Omega.{arith}
+use Rattle.std.proofs.lemmas.Result.{err_from_is_err_and}
 use Rattle.arith.proofs.RefusalLaws.{failed, passed}
-use Rattle.arith.proofs.SheetLaws.{corner_kept}
-use Rattle.plates.proofs.PlaceLaws.{planes_few}
 use Rattle.plates.proofs.Refusals.{size_5, size_lengths, size_passed, size_kept, unpack_size_lem, unpack_9, unpack_0}
 use Rattle.plates.proofs.unpacking.unpack.Goals as goal
 
-pub returns-then-not-on_sheet : goal.returns-then-not-on_sheet
-returns-then-not-on_sheet c =
-    let told = unpack_size_lem c.args.columns c.args.rows c.args.planes.now c.args.cells.now (size_5 _ _ _ _ _ _ (failed c.on_sheet.ensures c.if-not-on_sheet.true)) (suc-ne-zero 4) in
-    record { answer = told.0; memory = told.1 }
+pub returns-in_err-window : goal.returns-in_err-window
+returns-in_err-window c =
+    let p = err_from_is_err_and c.from_residual.result c.from_residual.ensures.1 in
+    let told = unpack_size_lem c.args.columns c.args.rows c.args.planes.now c.args.cells.now _ (size_5 _ _ _ _ _ _ _ c.in_err-window.ensures.refused) in
+    rw (p.1, p.2) (record { refused = told.0; memory = told.1 })
 
-pub row_bytes-requires : goal.row_bytes-requires
-row_bytes-requires c = (corner_kept _ _ (passed c.on_sheet.ensures c.if-not-on_sheet.false)).0
+pub returns-in_err-check_lengths : goal.returns-in_err-check_lengths
+returns-in_err-check_lengths c =
+    let window = c.in_ok-window.window in
+    let same = c.in_ok-window.ensures.made in
+    let p = err_from_is_err_and c.from_residual-in_err-check_lengths.result c.from_residual-in_err-check_lengths.ensures.1 in
+    let lengths = rw (c.planes_length.ensures, c.cells_length.ensures) at c.in_err-check_lengths.ensures in
+    let told = unpack_size_lem window.columns window.rows c.args.planes.now c.args.cells.now _ (lengths ∙ size_lengths _ _ _ _ _ _ window.wide window.high) in
+    rw (p.1, p.2, ← same.0, ← same.1) (record { refused = told.0; memory = told.1 })
 
-pub overflow_mul-stated-2 : goal.overflow_mul-stated-2
-overflow_mul-stated-2 c =
-    let sheet = corner_kept _ _ (passed c.on_sheet.ensures c.if-not-on_sheet.false) in
-    omega (arith, planes_few _ _ sheet.0 sheet.1 c.row_bytes.result c.row_bytes.ensures)
+pub new-eight-requires : goal.new-eight-requires
+new-eight-requires c =
+    let window = c.in_ok-window.window in
+    let lengths = rw (c.planes_length.ensures, c.cells_length.ensures) at c.in_ok-check_lengths.ensures in
+    (size_kept _ _ _ _ _ _ (size_passed _ _ _ _ _ _ window.wide window.high lengths)).1
 
-pub overflow_mul-due : goal.overflow_mul-due
-overflow_mul-due c =
-    let sheet = corner_kept _ _ (passed c.on_sheet.ensures c.if-not-on_sheet.false) in
-    omega (arith, mul-le-mul sheet.0 sheet.1)
-
-pub returns-then-refused-ne0 : goal.returns-then-refused-ne0
-returns-then-refused-ne0 c =
-    let sheet = passed c.on_sheet.ensures c.if-not-on_sheet.false in
-    let told = unpack_size_lem c.args.columns c.args.rows c.args.planes.now c.args.cells.now (c.lengths_refusal-refused.ensures ∙ rw c.row_bytes.ensures (size_lengths _ _ _ _ _ _ sheet)) c.if-refused-ne0.true in
-    record { answer = told.0; memory = told.1 }
-
-pub planes_sound-requires : goal.planes_sound-requires
-planes_sound-requires c =
-    let sheet = passed c.on_sheet.ensures c.if-not-on_sheet.false in
-    let size = size_kept _ _ _ _ _ _ (size_passed _ _ _ _ _ _ sheet (rw c.row_bytes.ensures at c.lengths_refusal-refused.ensures) c.if-refused-ne0.false) in
-    ((corner_kept _ _ sheet).0, size.1)
-
-pub returns-then-not-planes_sound : goal.returns-then-not-planes_sound
-returns-then-not-planes_sound c =
-    let sheet = passed c.on_sheet.ensures c.if-not-on_sheet.false in
-    let size = size_passed _ _ _ _ _ _ sheet (rw c.row_bytes.ensures at c.lengths_refusal-refused.ensures) c.if-refused-ne0.false in
-    let told = unpack_9 c.args.columns c.args.rows c.args.planes.now c.args.cells.now size (failed c.planes_sound.ensures c.if-not-planes_sound.true) in
-    record { answer = told.0; memory = told.1 }
+pub returns-then-not-sound : goal.returns-then-not-sound
+returns-then-not-sound c =
+    let window = c.in_ok-window.window in
+    let same = c.in_ok-window.ensures.made in
+    let lengths = rw (c.planes_length.ensures, c.cells_length.ensures) at c.in_ok-check_lengths.ensures in
+    let size = size_passed _ _ _ _ _ _ window.wide window.high lengths in
+    let sound = rw (c.new-eight.ensures.same_window, c.new-eight.ensures.same_bytes) at (failed c.sound.ensures c.if-not-sound.true) in
+    let told = unpack_9 window.columns window.rows c.args.planes.now c.args.cells.now size sound in
+    rw (← same.0, ← same.1) (record { refused = told.0; memory = told.1 })
 
 pub write_cells-requires : goal.write_cells-requires
 write_cells-requires c =
-    let sheet = passed c.on_sheet.ensures c.if-not-on_sheet.false in
-    let size = size_kept _ _ _ _ _ _ (size_passed _ _ _ _ _ _ sheet (rw c.row_bytes.ensures at c.lengths_refusal-refused.ensures) c.if-refused-ne0.false) in
-    (record { wide = (corner_kept _ _ sheet).0; long = size.1; sound = passed c.planes_sound.ensures c.if-not-planes_sound.false }, size.2)
+    let planes = c.new-eight.result in
+    let lengths = rw (c.planes_length.ensures, c.cells_length.ensures) at c.in_ok-check_lengths.ensures in
+    let window = c.in_ok-window.window in
+    let size = size_kept _ _ _ _ _ _ (size_passed _ _ _ _ _ _ window.wide window.high lengths) in
+    record {
+      right = record { wide = planes.window.wide; long = omega (arith, planes.one, planes.eight); sound = passed c.sound.ensures c.if-not-sound.false };
+      long = rw c.new-eight.ensures.same_window size.2;
+    }
 
 pub returns : goal.returns
 returns c =
-    let sheet = passed c.on_sheet.ensures c.if-not-on_sheet.false in
-    let size = size_passed _ _ _ _ _ _ sheet (rw c.row_bytes.ensures at c.lengths_refusal-refused.ensures) c.if-refused-ne0.false in
-    let whole = unpack_0 _ _ _ _ size (passed c.planes_sound.ensures c.if-not-planes_sound.false) in
-    record { answer = whole.0; memory = c.write_cells.ensures ∙ whole.1 }
+    let window = c.in_ok-window.window in
+    let same = c.in_ok-window.ensures.made in
+    let lengths = rw (c.planes_length.ensures, c.cells_length.ensures) at c.in_ok-check_lengths.ensures in
+    let size = size_passed _ _ _ _ _ _ window.wide window.high lengths in
+    let sound = rw (c.new-eight.ensures.same_window, c.new-eight.ensures.same_bytes) at (passed c.sound.ensures c.if-not-sound.false) in
+    let written = rw (c.new-eight.ensures.same_window, c.new-eight.ensures.same_bytes) at c.write_cells.ensures in
+    let whole = unpack_0 window.columns window.rows _ _ size sound in
+    rw (← same.0, ← same.1) (record { refused = whole.0; memory = written ∙ whole.1 })

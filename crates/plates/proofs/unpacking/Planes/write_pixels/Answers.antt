@@ -1,23 +1,19 @@
--- `plates::unpacking::write_pixels` meets its contract: each colorant has the three bits that the sums give it (ColorantLaws). The measure is how many pixels are
--- left. Assumes nothing.
+-- `plates::unpacking::Planes::write_pixels` meets its contract: each colorant has the three bits that the sums give it (ColorantLaws). Assumes nothing.
 use mathlib.Core.Path.{refl}
 use native.Mathlib.Omega.{arith}
 use Rattle.arith.proofs.RunLaws.{filling_start, filling_length, filling_store, filling_whole}
 use Rattle.plates.proofs.MaskLaws.{mask_pos}
 use Rattle.plates.proofs.ColorantLaws.{sums_fit, three_bits}
-use Rattle.plates.proofs.unpacking.write_pixels.Goals as goal
+use Rattle.plates.proofs.unpacking.Planes.write_pixels.Goals as goal
 
-pub sum_of-ones-requires : goal.sum_of-ones-requires
-sum_of-ones-requires c =
-    (c.requires.0, c.requires.1, omega arith, omega arith, omega arith, omega arith, (sums_fit _ _ _ (λ p. (c.type_inv.planes _).fits) c.requires.3 c.requires.0).0)
+pub sum_of-ones-requires-clause-fits : goal.sum_of-ones-requires-clause-fits
+sum_of-ones-requires-clause-fits c = (sums_fit _ _ _ (λ p. c.args.self.small _) c.requires.apart c.requires.there).0
 
-pub sum_of-twos-requires : goal.sum_of-twos-requires
-sum_of-twos-requires c =
-    (c.requires.0, c.requires.1, omega arith, omega arith, omega arith, omega arith, (sums_fit _ _ _ (λ p. (c.type_inv.planes _).fits) c.requires.3 c.requires.0).1)
+pub sum_of-twos-requires-clause-fits : goal.sum_of-twos-requires-clause-fits
+sum_of-twos-requires-clause-fits c = (sums_fit _ _ _ (λ p. c.args.self.small _) c.requires.apart c.requires.there).1
 
-pub sum_of-fours-requires : goal.sum_of-fours-requires
-sum_of-fours-requires c =
-    (c.requires.0, c.requires.1, omega arith, omega arith, omega arith, omega arith, (sums_fit _ _ _ (λ p. (c.type_inv.planes _).fits) c.requires.3 c.requires.0).2)
+pub sum_of-fours-requires-clause-fits : goal.sum_of-fours-requires-clause-fits
+sum_of-fours-requires-clause-fits c = (sums_fit _ _ _ (λ p. c.args.self.small _) c.requires.apart c.requires.there).2
 
 pub loop-t-init : goal.loop-t-init
 loop-t-init c = filling_start _ _
@@ -51,7 +47,7 @@ loop-t-preserved c =
     let room = c.loop-t-test.true in
     filling_store c.loop-t.invariant _ room
     (rw (c.mask_of-mask.ensures, c.sum_of-ones.ensures, c.sum_of-twos.ensures, c.sum_of-fours.ensures)
-    (three_bits _ _ _ (λ p. (c.type_inv.planes _).fits) c.requires.3 c.requires.0 _ (omega (arith, c.requires.2))))
+    (three_bits _ _ _ (λ p. c.args.self.small _) c.requires.apart c.requires.there _ (omega (arith, c.requires.few))))
 
 pub shape_of-out : goal.shape_of-out
 shape_of-out c = filling_length c.loop-t.invariant

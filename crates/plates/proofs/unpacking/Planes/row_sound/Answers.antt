@@ -1,23 +1,16 @@
--- `plates::unpacking::row_sound` meets its contract, by the laws of its loop (UnpackLoops). The measure is how many places are left.
+-- `plates::unpacking::Planes::row_sound` meets its contract, by the laws of its loop (UnpackLoops).
 -- Assumes nothing.
 use mathlib.Core.Path.{sym, ◌∙◌}
 use native.Mathlib.Omega.{arith}
 use Rattle.plates.proofs.UnpackLoops.{full_start, full_few, full_more, full_kept}
-use Rattle.plates.proofs.unpacking.row_sound.Goals as goal
-use Rattle.plates.proofs.unpacking.row_sound.Goals.{then-once_at, else-once_at}
-
-pub row_bytes-b-end-requires : goal.row_bytes-b-end-requires
-row_bytes-b-end-requires c = c.requires.0
+use Rattle.plates.proofs.unpacking.Planes.row_sound.Goals as goal
+use Rattle.plates.proofs.unpacking.Planes.row_sound.Goals.{then-once_at, else-once_at}
 
 pub loop-b-init : goal.loop-b-init
 loop-b-init c = full_start _ _ _ _
 
-pub once_at-requires : goal.once_at-requires
-once_at-requires c =
-    (omega arith, omega (arith, c.requires.1, c.row_bytes-b-end.ensures, c.loop-b-test.true), c.requires.2)
-
 pub overflow_add-passed : goal.overflow_add-passed
-overflow_add-passed c = omega (arith, full_few c.loop-b.invariant, c.loop-b.invariant.within, c.requires.0)
+overflow_add-passed c = omega (arith, full_few c.loop-b.invariant, c.loop-b.invariant.within, c.args.self.window.wide)
 
 pub loop-b-preserved : goal.loop-b-preserved
 loop-b-preserved c =
@@ -30,4 +23,4 @@ loop-b-preserved c =
     ]
 
 pub overflow_cast-sound : goal.overflow_cast-sound
-overflow_cast-sound c = omega (arith, full_few c.loop-b.invariant, c.loop-b.invariant.within, c.requires.0)
+overflow_cast-sound c = omega (arith, full_few c.loop-b.invariant, c.loop-b.invariant.within, c.args.self.window.wide)

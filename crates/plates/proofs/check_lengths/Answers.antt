@@ -1,6 +1,6 @@
--- `plates::lengths_refusal` meets its contract: each return is one law of Refusals. Assumes nothing.
+-- `plates::check_lengths` meets its contract: each return is one law of Refusals. Assumes nothing.
 use Rattle.plates.proofs.Refusals.{length_6, length_7, length_0}
-use Rattle.plates.proofs.lengths_refusal.Goals as goal
+use Rattle.plates.proofs.check_lengths.Goals as goal
 
 pub returns-then-input-stated : goal.returns-then-input-stated
 returns-then-input-stated c = length_6 _ _ _ _ c.if-input-stated.true
