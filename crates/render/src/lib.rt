@@ -7,7 +7,6 @@ mod refusals;
 mod rows;
 mod windows;
 
-pub use windows::{cell_at, render, render_brick};
 
 // The part of the sheet that a call renders: its corner, and how many columns and rows it has.
 #[derive(Clone, Copy)]

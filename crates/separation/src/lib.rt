@@ -5,14 +5,14 @@ ghost use Rattle.std.specs.Prelude.{◌≡◌, cond, ◌-◌, ◌≤◌, ◌<◌
 ghost use Rattle.separation.specs.Weights.{full, demichel_weight, kueppers_weight, weight, weights_of, scale_of};
 
 // How ink values become weights.
-#[derive(Clone, Copy)]
+#[derive(Clone, Copy, Debug, PartialEq, Eq)]
 pub enum Separation {
     Demichel,
     Kueppers,
 }
 
 // The values of the inks cyan, magenta and yellow, 255 being full.
-#[derive(Clone, Copy)]
+#[derive(Clone, Copy, Debug, PartialEq, Eq)]
 pub struct Inks {
     pub c: u8,
     pub m: u8,
