@@ -1,42 +1,13 @@
-// A row of cells, wherever their phases come from; and a row whose phases are worked out, each from the one
-// before it.
-ghost use Rattle.std.specs.Prelude.{◌≡◌, ℕ, ◌+◌, ◌*◌, ◌%◌, ◌≤◌, ◌<◌, length};
-ghost use Rattle.render.specs.Rows.{TableOf, Cells, RowLent, tallied_on};
+// Painting a window row after row, wherever the phases of its cells come from.
+ghost use Rattle.std.specs.Prelude.{◌≡◌, ℕ, ◌+◌, ◌/◌, ◌%◌, ◌<◌, length};
+ghost use Rattle.render.specs.Windows.{tallies_of};
+ghost use Rattle.render.specs.Rows.{TableOf, Cells, RowLent, RowsLent, tallied_on};
 
+use crate::Window;
 use crate::cells::{inks_at, painted, unpainted};
+use crate::phases::{Phases, Source};
 use screen::Screen;
 use separation::Separation;
-
-// Where the cells of a row have their phases from, one after the other.
-pub(crate) trait Phases {
-    // the phase of the cell that is so many cells further on
-    ghost at: { Self → ℕ → ℕ };
-
-    fn next(&mut self) -> u32
-        ensures here { result ≡ at self.old 0 }
-        ensures on { (i : ℕ) → at self.new i ≡ at self.old (i + 1) };
-}
-
-// Phases of a screen of n cells that are carried from cell to cell: each next one is `step` further on.
-#[derive(Clone, Copy)]
-pub(crate) struct Carried {
-    pub(crate) n: u32,
-    pub(crate) step: u32,
-    pub(crate) phase: u32,
-    ghost low: { phase < n },
-    ghost short: { step ≤ n },
-}
-
-impl Phases for Carried {
-    ghost at = { λ s i. (s.phase + s.step * i) % s.n };
-
-    #[tactic(auto, using(crate::proofs::RowLoop::carried_first, crate::proofs::RowLoop::carried_on))]
-    fn next(&mut self) -> u32 {
-        let phase = self.phase;
-        self.phase = arith::carry(phase, self.step, self.n);
-        phase
-    }
-}
 
 // What cells are painted by: the screen, the separation, and the thresholds by phase.
 #[derive(Clone, Copy)]
@@ -48,8 +19,32 @@ pub(crate) struct Painter<'a> {
 }
 
 impl Painter<'_> {
+    // Writes the cells of a window row after row, and answers their tallies.
+    pub(crate) fn rows<S: Source>(
+        &self,
+        source: &S,
+        w: Window,
+        input: &[u8],
+        out: &mut [u8],
+    ) -> [u64; 8]
+        requires phases_low { (x y : ℕ) → S.number source.now x y < self.now.screen.n }
+        requires rows_lent { RowsLent w.x w.y w.columns w.rows (length input.now) (length out.old) }
+        ensures cells { Cells self.now.screen.n self.now.sep self.now.table.now input.now (λ i. S.number source.now (w.x + i % w.columns) (w.y + i / w.columns)) (length out.old) out.new }
+        ensures counts { result ≡ tallies_of out.new }
+    {
+        let wide = w.columns as usize;
+        let mut tallies = [0u64; 8];
+        for j in 0..w.rows {
+            let from = j as usize * wide;
+            let to = from + wide;
+            let phases = source.row(w.x, w.y + j);
+            self.row(phases, &input[3 * from..3 * to], &mut out[from..to], &mut tallies);
+        }
+        tallies
+    }
+
     // Writes the cells of a row, whose phases are below n, and adds them to the tallies.
-    pub(crate) fn row<P: Phases + Copy>(
+    fn row<P: Phases + Copy>(
         &self,
         mut phases: P,
         input: &[u8],
