@@ -3,6 +3,7 @@
 use Prim.Native.Nat.{ℕ, ◌+◌, ◌*◌, ◌/◌, ◌%◌, ◌≤◌, ◌<◌}
 use mathlib.Core.Path.{◌≡◌, refl, sym, ap, ap₂, ◌∙◌}
 use mathlib.Core.Logic.{◌⊎◌, inl, inr}
+use mathlib.Core.Bool.{false≢true}
 use mathlib.Core.List.{List, [], ◌∷◌}
 use native.Mathlib.Nat.{pos_of_ne-zero, add-zero, zero-mul, mul_comm}
 use native.Mathlib.Decide.{ℕ_discrete}
@@ -11,17 +12,18 @@ use lib.Arith.{digits_lt, digits_div, digits_mod}
 use lib.ListN.{length, get_or}
 use borrow.Author.Tests.{eq-eqb, ne_eqb}
 use Rattle.arith.specs.Run.{upto, zeros}
+use Rattle.std.specs.Prelude.{Result, Ok, Err, IsErr, IfOk}
 use Rattle.arith.specs.Sum.{sum_below}
 use Rattle.arith.specs.Tally.{tally}
-use Rattle.arith.specs.Refusal.{answered, written}
+use Rattle.arith.specs.declared.refusals.Refusal.{Refusal}
+use Rattle.arith.specs.Refusal.{answered, written, number, number_of}
 use Rattle.arith.proofs.SumLaws.{sum_same}
 use Rattle.arith.proofs.TallyLaws.{tallies_most}
-use Rattle.arith.proofs.RefusalLaws.{or_none, answered_none, answered_whole, written_none, written_all, written_refused}
+use Rattle.arith.proofs.RefusalLaws.{or_none, number_above, answered_none, answered_whole, written_none, written_all, written_refused}
 use Rattle.arith.proofs.RunLaws.{upto_length, upto_at, upto_same}
 use Rattle.screen.specs.declared.Screen.{Screen}
-use Rattle.screen.specs.declared.places.Place.{Place}
 use Rattle.screen.specs.Screens.{Admitted}
-use Rattle.screen.specs.Phase.{phase, place_refusal, place_of}
+use Rattle.screen.specs.Phase.{phase, place_refusal}
 use Rattle.screen.proofs.Published.{admitted_words, phase_below, place_answered}
 use Rattle.separation.specs.declared.Separation.{Separation}
 use Rattle.separation.specs.declared.Inks.{Inks}
@@ -31,10 +33,8 @@ use Rattle.quantiser.specs.Subscreens.{colorant_of}
 use Rattle.quantiser.specs.Leaves.{threshold_of, thresholds_in, lone_threshold, levels_of, rank}
 use Rattle.quantiser.proofs.Published.{threshold_within, threshold_listed, threshold_answered, colorant_rank}
 use Rattle.render.specs.declared.Window.{Window}
-use Rattle.render.specs.declared.Rendering.{Rendering}
-use Rattle.render.specs.declared.Cell.{Cell}
 use Rattle.render.specs.Windows.{area, inks_at, cell_of, window_cell, window_cells, tallies_of}
-use Rattle.render.specs.Answers.{window_refusal, brick_refusal, answer_of, rendering, rendered, brick_rendering, lone_cell}
+use Rattle.render.specs.Answers.{Rendering, Cell, told, window_refusal, brick_refusal, answer_of, rendering, rendered, brick_rendering, lone_cell}
 use Rattle.render.specs.Laws.{TalliesOnSheet, lone_window, lone_input, LoneCellRendered}
 use Rattle.render.specs.Rows.{TableOf, cells_by, RowsLent}
 use Rattle.render.proofs.RefusalLaws.{area_limit, window_kept, places_enough}
@@ -53,24 +53,24 @@ pub answer_refused : (r : ℕ) (cells : List ℕ) → (r ≡ 0 → ⊥) → answ
 unfolding answer_of
 answer_refused r cells h = rw (ne_eqb r 0 h)
 
+-- what an answer says, laid out, it says of its parts
+pub told_parts : (answer : Result (List ℕ) Refusal) (r : Rendering) → told answer ≡ r → (number_of answer ≡ r.refusal) × IfOk answer (λ tallies. tallies ≡ r.tallies)
+told_parts (Ok tallies) r e = (ap (λ (v : Rendering). v.refusal) e, ap (λ (v : Rendering). v.tallies) e)
+told_parts (Err refusal) r e = (ap (λ (v : Rendering). v.refusal) e, tt)
+
 module _ (r : ℕ) (cells out : List ℕ) where
   -- a refused call
-  pub answer_none : {v : Rendering} (r' : ℕ) → r' ≡ r → (r' ≡ 0 → ⊥) → v ≡ record { refusal = r'; tallies = zeros 8 } → (v ≡ answer_of r cells) × (out ≡ written r cells out)
-  answer_none r' e h q = (q ∙ ap nothing e ∙ sym (answer_refused r cells (λ z. h (e ∙ z))), (written_refused r cells out e h).1)
+  pub answer_none : (answer : Result (List ℕ) Refusal) → IsErr answer → number_of answer ≡ r → (told answer ≡ answer_of r cells) × (out ≡ written r cells out)
+  answer_none (Ok tallies) is same = absurd (false≢true is)
+  answer_none (Err e) is same =
+      let some : r ≡ 0 → ⊥ = λ z. omega (arith, number_above e, same, z) in
+      (ap nothing same ∙ sym (answer_refused r cells some), (written_refused r cells out same (λ z. some (sym same ∙ z))).1)
 
   -- a rendered window
-  pub answer_whole : {t out₁ : List ℕ} → r ≡ 0 → length cells ≡ length out → out₁ ≡ cells → t ≡ tallies_of out₁
-      → (◌≡◌ {A = Rendering} (record { refusal = 0; tallies = t }) (answer_of r cells)) × (out₁ ≡ written r cells out)
+  pub answer_whole : {t out₁ : List ℕ} → 0 ≡ r → length cells ≡ length out → out₁ ≡ cells → t ≡ tallies_of out₁
+      → (told (Ok t) ≡ answer_of r cells) × (out₁ ≡ written r cells out)
   unfolding answer_of
-  answer_whole e l p q = (rw (q, p, e), p ∙ sym (written_all r cells out e l))
-
-  -- a window without cells
-  pub answer_empty : {v : Rendering} → r ≡ 0 → length cells ≡ 0 → length out ≡ 0 → v ≡ record { refusal = 0; tallies = zeros 8 } → (v ≡ answer_of r cells) × (out ≡ written r cells out)
-  unfolding tallies_of upto tally zeros
-  answer_empty e n m q =
-      let none : out ≡ [] = no_cells out m in
-      let whole = answer_whole {t = zeros 8} {out₁ = out} e (n ∙ sym m) (none ∙ sym (no_cells cells n)) (sym (ap tallies_of none)) in
-      (q ∙ whole.0, whole.1)
+  answer_whole e l p q = (rw (← e, q, p), p ∙ sym (written_all r cells out (sym e) l))
 
 -- the tallies of an answer count each of its cells at most once
 abbrev Within : ℕ → List ℕ → Type 0
@@ -89,6 +89,13 @@ answer_within r cells most fits = go (ℕ_discrete r 0)
     go (no h) = rw (ne_eqb r 0 h) (refl, omega arith)
 
 -- ---- cells
+
+-- where there are none, none are left and none counted
+pub none_painted : {cells out : List ℕ} → length cells ≡ 0 → length out ≡ 0 → (out ≡ cells) × (0 ∷ 0 ∷ 0 ∷ 0 ∷ 0 ∷ 0 ∷ 0 ∷ 0 ∷ [] ≡ tallies_of out)
+unfolding tallies_of upto tally
+none_painted {cells} {out} n m =
+    let none : out ≡ [] = no_cells out m in
+    (none ∙ sym (no_cells cells n), sym (ap tallies_of none))
 
 module _ (s : Screen) (sep : Separation) (w : Window) (input : List ℕ) where
   pub cells_length_lem : length (window_cells s sep w input) ≡ area w
@@ -149,37 +156,19 @@ table_of s memory table ok room e =
 
 -- ---- a lone place
 
-module _ (s : Screen) (x y : ℕ) {place : Place} (e : place ≡ place_of s x y) where
-  lone_refusal : place.refusal ≡ place_refusal s x y
-  lone_refusal = ap (λ (p : Place). p.refusal) e ∙ (place_answered s x y).0
+module _ (s : Screen) (x y : ℕ) (none : 0 ≡ place_refusal s x y) {p : ℕ} (e : p ≡ phase s x y) {t : ℕ} (f : t ≡ lone_threshold s p) where
+  ok : Admitted s
+  ok = ((place_answered s x y).1 (sym none)).0
 
-  pub lone_refused : (sep : Separation) (inks : Inks) → (place.refusal ≡ 0 → ⊥) → ◌≡◌ {A = Cell} (record { refusal = place.refusal; colorant = 0 }) (lone_cell s sep x y inks)
-  unfolding lone_cell
-  lone_refused sep inks h = rw (lone_refusal, answered_none (place_refusal s x y) (cell_of s sep x y inks) (λ z. h (lone_refusal ∙ z)))
+  lone_threshold_lem : t ≡ threshold_of s (phase s x y)
+  lone_threshold_lem = f ∙ ap (lone_threshold s) e ∙ threshold_answered s ok (phase s x y) (phase_below s ok x y)
 
-  module _ (h : place.refusal ≡ 0) {t : ℕ} (f : t ≡ lone_threshold s place.phase) where
-    none : place_refusal s x y ≡ 0
-    none = sym lone_refusal ∙ h
-
-    ok : Admitted s
-    ok = ((place_answered s x y).1 none).0
-
-    lone_threshold_lem : t ≡ threshold_of s (phase s x y)
-    lone_threshold_lem =
-        f
-        ∙ ap (λ (p : Place). lone_threshold s p.phase) e
-        ∙ ap (lone_threshold s) ((place_answered s x y).1 none).1
-        ∙ threshold_answered s ok (phase s x y) (phase_below s ok x y)
-
-    pub lone_few : t ≤ 4096
-    lone_few = omega (arith, lone_threshold_lem, (threshold_within s ok (phase s x y) (phase_below s ok x y)).1, ((admitted_words s).0 ok).cells_limit)
-
-    -- its rank among the levels is the colorant
-    pub lone_coloured : (sep : Separation) (inks : Inks) → InkValues inks → {colorant : ℕ} → colorant ≡ rank (levels_of s.n sep inks) (2 * scale_of sep * t)
-        → ◌≡◌ {A = Cell} (record { refusal = 0; colorant = colorant }) (lone_cell s sep x y inks)
-    unfolding lone_cell cell_of
-    lone_coloured sep inks v q =
-        rw (q, lone_threshold_lem, colorant_rank s ok sep inks v (phase s x y) (phase_below s ok x y), answered_whole (place_refusal s x y) (colorant_of s sep inks (phase s x y)) none, none)
+  -- its rank among the levels is the colorant
+  pub lone_coloured : (sep : Separation) (inks : Inks) → InkValues inks → {colorant : ℕ} → colorant ≡ rank (levels_of s.n sep inks) (2 * scale_of sep * t)
+      → colorant ≡ (lone_cell s sep x y inks).colorant
+  unfolding lone_cell cell_of
+  lone_coloured sep inks v q =
+      rw (q, lone_threshold_lem, colorant_rank s ok sep inks v (phase s x y) (phase_below s ok x y), answered_whole (place_refusal s x y) (colorant_of s sep inks (phase s x y)) (sym none))
 
 -- and the window there has that cell
 module _ (s : Screen) (sep : Separation) (x y : ℕ) (inks : Inks) where

@@ -1,4 +1,4 @@
--- A row of a brick, as `brick_row` takes it out: its part lies within the brick, and going round it from the right column reads the
+-- A row of a brick, as it is taken out for a row: its part lies within the brick, and going round it from the right column reads the
 -- brick at the places of the row. And a true brick has what that asks, and the phases of the sheet.
 -- Assumes nothing.
 use Prim.Native.Nat.{ℕ, ◌+◌, ◌-◌, ◌*◌, ◌/◌, ◌%◌, ◌≤◌, ◌<◌}
@@ -13,8 +13,8 @@ use Rattle.screen.specs.declared.Screen.{Screen}
 use Rattle.screen.specs.declared.bricks.Brick.{Brick}
 use Rattle.screen.specs.Screens.{Admitted}
 use Rattle.screen.specs.Phase.{phase}
-use Rattle.screen.specs.Brick.{columns, rows, shift, TrueBrick, brick_place}
-use Rattle.screen.proofs.Published.{phase_below, brick_size, shift_words, read_from_brick}
+use Rattle.screen.specs.Brick.{columns, rows, shift, stored_brick, TrueBrick, brick_place}
+use Rattle.screen.proofs.Published.{admitted_words, phase_below, brick_size, shift_words, read_from_brick}
 use Rattle.render.specs.Rows.{BrickLent, number_read}
 
 -- the part of a brick that is the line of row y, and the column in it that a row begins in
@@ -55,7 +55,10 @@ module _ {n : ℕ} {size : Brick} {brick : List ℕ} (b : BrickLent n size brick
 
 -- ---- a true brick
 
-module _ (s : Screen) (ok : Admitted s) (brick : List ℕ) (holds : TrueBrick s brick) (size : Brick) (e : size ≡ record { refusal = 0; columns = columns s; rows = rows s; shift = shift s }) where
+module _ (s : Screen) (ok : Admitted s) (brick : List ℕ) (holds : TrueBrick s brick) (size : Brick) (stored : size ≡ stored_brick s) where
+  e : size ≡ record { columns = columns s; rows = rows s; shift = shift s }
+  e = let same = (admitted_words s).1 ok in rw (stored, same.columns_true, same.rows_true, same.shift_true)
+
   -- has what a row's function asks
   pub brick_lent : BrickLent s.n size brick
   brick_lent =

@@ -11,9 +11,11 @@ use native.Mathlib.Omega.{arith}
 use lib.Arith.{digits_lt}
 use lib.Dec.{eqb}
 use lib.ListN.{length, get_or}
+use Rattle.std.specs.Prelude.{Result, IfOk}
 use Rattle.arith.specs.Sum.{sum_below, indicator}
 use Rattle.arith.specs.Tally.{tally}
-use Rattle.arith.specs.Refusal.{written}
+use Rattle.arith.specs.declared.refusals.Refusal.{Refusal}
+use Rattle.arith.specs.Refusal.{written, number_of}
 use Rattle.arith.proofs.RefusalLaws.{written_all}
 use Rattle.arith.proofs.RunLaws.{upto_at}
 use Rattle.arith.proofs.SumLaws.{sum_same, sum_places, sum_window, sum_along_places}
@@ -30,12 +32,11 @@ use Rattle.quantiser.specs.Subscreens.{subscreen_of, colorant_of, phases_in, pha
 use Rattle.quantiser.specs.Running.{count}
 use Rattle.quantiser.proofs.Published.{count_share, subscreen_share, phases_in_all}
 use Rattle.render.specs.declared.Window.{Window}
-use Rattle.render.specs.declared.Rendering.{Rendering}
 use Rattle.render.specs.Windows.{area, cell_of, window_cell, window_cells, tallies_of}
-use Rattle.render.specs.Answers.{window_refusal, brick_refusal, answer_of, rendering, rendered, brick_rendering, brick_rendered}
+use Rattle.render.specs.Answers.{Rendering, told, window_refusal, brick_refusal, answer_of, rendering, rendered, brick_rendering, brick_rendered}
 use Rattle.render.specs.Finished.{Brickwork, Even, FinishedWindow, Agreement, bytes_in_subscreen}
 use Rattle.render.proofs.RefusalLaws.{window_whole, window_kept, true_due, brick_window, brick_whole}
-use Rattle.render.proofs.AnswerLaws.{cells_length_lem, cells_at}
+use Rattle.render.proofs.AnswerLaws.{told_parts, cells_length_lem, cells_at}
 
 -- ---- sums over cells
 
@@ -124,18 +125,28 @@ module _ (s : Screen) (sep : Separation) (w : Window) (input out : List ℕ) (in
 
 -- ---- the promise
 
+-- what a renderer's answer says and what it leaves, where they are these, and what follows
+pub record Kept (r : Rendering) (left : List ℕ) (answer : Result (List ℕ) Refusal) (out : List ℕ) (promise : Type 0) : Type 0 where
+  pub refused : number_of answer ≡ r.refusal
+  pub tallies : IfOk answer (λ tallies. tallies ≡ r.tallies)
+  pub cells : out ≡ left
+  pub finished : promise
+
+kept : (answer : Result (List ℕ) Refusal) (r : Rendering) {left out : List ℕ} {promise : Type 0} → told answer ≡ r → out ≡ left → promise → Kept r left answer out promise
+kept answer r e left promise = let parts = told_parts answer r e in record { refused = parts.0; tallies = parts.1; cells = left; finished = promise }
+
 -- of `render`
 finished_worked : (s : Screen) (sep : Separation) (w : Window) (input out : List ℕ)
     → FinishedWindow s sep w input (length out) (rendering s sep w input out) (rendered s sep w input out)
 finished_worked = even
 
 -- and so what it answers and leaves determines the call and keeps the promise
-pub worked_keeps : (s : Screen) (sep : Separation) (w : Window) (input out : List ℕ) {answer : Rendering} {out₁ : List ℕ}
-    → (answer ≡ answer_of (window_refusal s w (length input) (length out)) (window_cells s sep w input))
+pub worked_keeps : (s : Screen) (sep : Separation) (w : Window) (input out : List ℕ) (answer : Result (List ℕ) Refusal) {out₁ : List ℕ}
+    → (told answer ≡ answer_of (window_refusal s w (length input) (length out)) (window_cells s sep w input))
     × (out₁ ≡ written (window_refusal s w (length input) (length out)) (window_cells s sep w input) out)
-    → (answer ≡ rendering s sep w input out) × ((out₁ ≡ rendered s sep w input out) × FinishedWindow s sep w input (length out) answer out₁)
+    → Kept (rendering s sep w input out) (rendered s sep w input out) answer out₁ (FinishedWindow s sep w input (length out) (told answer) out₁)
 unfolding rendering rendered
-worked_keeps s sep w input out p = (p.0, (p.1, rw (p.0, p.1) (finished_worked s sep w input out)))
+worked_keeps s sep w input out answer p = kept answer _ p.0 p.1 (rw (p.0, p.1) (finished_worked s sep w input out))
 
 -- a true brick leaves a window's refusal as it is
 same_refusal : (s : Screen) (w : Window) (inputs outputs : ℕ) (brick : List ℕ) → Brick.TrueBrick s brick
@@ -160,10 +171,9 @@ finished_read s sep w input brick out holds =
     let same = agreement s sep w input brick out holds in
     rw (same.0, same.1) (finished_worked s sep w input out)
 
-pub read_keeps : (s : Screen) (sep : Separation) (w : Window) (input brick out : List ℕ) {answer : Rendering} {out₁ : List ℕ}
-    → (answer ≡ answer_of (brick_refusal s w (length input) (length out) brick) (window_cells s sep w input))
+pub read_keeps : (s : Screen) (sep : Separation) (w : Window) (input brick out : List ℕ) (answer : Result (List ℕ) Refusal) {out₁ : List ℕ}
+    → (told answer ≡ answer_of (brick_refusal s w (length input) (length out) brick) (window_cells s sep w input))
     × (out₁ ≡ written (brick_refusal s w (length input) (length out) brick) (window_cells s sep w input) out)
-    → (answer ≡ brick_rendering s sep w input brick out)
-    × ((out₁ ≡ brick_rendered s sep w input brick out) × (Brick.TrueBrick s brick → FinishedWindow s sep w input (length out) answer out₁))
+    → Kept (brick_rendering s sep w input brick out) (brick_rendered s sep w input brick out) answer out₁ (Brick.TrueBrick s brick → FinishedWindow s sep w input (length out) (told answer) out₁)
 unfolding brick_rendering brick_rendered
-read_keeps s sep w input brick out p = (p.0, (p.1, λ holds. rw (p.0, p.1) (finished_read s sep w input brick out holds)))
+read_keeps s sep w input brick out answer p = kept answer _ p.0 p.1 (λ holds. rw (p.0, p.1) (finished_read s sep w input brick out holds))

@@ -4,7 +4,7 @@
 use Prim.Native.Nat.{ℕ, ◌+◌, ◌*◌, ◌%◌, ◌≤◌, ◌<◌}
 use mathlib.Core.Path.{◌≡◌, refl, sym, ap, ap₂, ◌∙◌}
 use mathlib.Core.List.{List}
-use native.Mathlib.Nat.{mul-zero, add-zero, mod-eq_of_lt, mod-add-mod}
+use native.Mathlib.Nat.{mul-le-mul, mul-zero, add-zero, mod-eq_of_lt, mod-add-mod}
 use native.Mathlib.Numerals.{add-one}
 use native.Mathlib.Omega.{arith}
 use lib.ListN.{length, get_or, set}
@@ -19,7 +19,7 @@ use Rattle.separation.specs.Weights.{scale_of}
 use Rattle.separation.specs.Laws.{InkValues}
 use Rattle.quantiser.specs.Subscreens.{colorant_of}
 use Rattle.quantiser.specs.Leaves.{levels_of, rank}
-use Rattle.quantiser.proofs.Published.{rank_below, colorant_rank}
+use Rattle.quantiser.proofs.Published.{scale_limit, rank_below, colorant_rank}
 use Rattle.render.specs.declared.cells.Paint.{Paint}
 use Rattle.render.specs.Windows.{inks_at}
 use Rattle.render.specs.Rows.{TableOf, cells_by, Cells, tallied_on, paint_of, Own}
@@ -40,6 +40,10 @@ paint_own n sep inks t e = rw e (refl, refl)
 pub paint_small : (n : ℕ) (sep : Separation) (inks : Inks) (t : ℕ) {paint : Paint} → paint ≡ paint_of n sep inks t → paint.cell < 8
 unfolding paint_of
 paint_small n sep inks t e = rw e (rank_below _ _)
+
+-- what the bar of a threshold is at most
+pub bar_limit : (sep : Separation) (unit t : ℕ) → unit ≡ 2 * scale_of sep → t ≤ 65535 → unit * t ≤ 33162750 * 65535
+bar_limit sep unit t e h = mul-le-mul {n₁ = unit} {m₁ = t} {n₂ = 33162750} {m₂ = 65535} (omega (arith, e, scale_limit sep)) h
 
 -- the cell of pixel i by the table: the rank of its phase number's threshold among its levels
 unfoldable pub cell_by : ℕ → Separation → List ℕ → List ℕ → (ℕ → ℕ) → ℕ → ℕ
@@ -71,14 +75,14 @@ cells_same n sep table input f g cells same w s t = w s t ∙ upto_same _ _ cell
 pub carried_first : (p a n : ℕ) → p < n → p ≡ (p + a * 0) % n
 carried_first p a n h = sym (rw (mul-zero, add-zero) (mod-eq_of_lt h))
 
-pub carried_on : (p a n i q r : ℕ) → q ≡ (p + a * i) % n → r ≡ (q + a) % n → r ≡ (p + a * (i + 1)) % n
-carried_on p a n i q r e f = f ∙ ap (λ (z : ℕ). (z + a) % n) e ∙ mod-add-mod (p + a * i) n a ∙ ap (λ (z : ℕ). z % n) (omega arith)
+pub carried_on : (p a n i q : ℕ) → q ≡ (p + a) % n → (q + a * i) % n ≡ (p + a * (i + 1)) % n
+carried_on p a n i q e = rw e (mod-add-mod (p + a) n (a * i) ∙ ap (λ (z : ℕ). z % n) (omega arith))
 
 pub round_first : (p n : ℕ) → p < n → p ≡ (p + 0) % n
 round_first p n h = sym (rw add-zero (mod-eq_of_lt h))
 
-pub round_on : (p n i q r : ℕ) → q ≡ (p + i) % n → r ≡ (q + 1) % n → r ≡ (p + (i + 1)) % n
-round_on p n i q r e f = f ∙ ap (λ (z : ℕ). (z + 1) % n) e ∙ mod-add-mod (p + i) n 1 ∙ ap (λ (z : ℕ). z % n) (omega arith)
+pub round_on : (p n i q : ℕ) → q ≡ (p + 1) % n → (q + i) % n ≡ (p + (i + 1)) % n
+round_on p n i q e = rw e (mod-add-mod (p + 1) n i ∙ ap (λ (z : ℕ). z % n) (omega arith))
 
 -- ---- the loop
 

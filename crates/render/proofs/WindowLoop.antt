@@ -10,7 +10,7 @@ use lib.ListN.{length, get_or, take, drop, length-take, length-drop}
 use borrow.Rule.Slice.PartMut.{put_mid}
 use Rattle.arith.specs.Run.{upto}
 use Rattle.arith.specs.Tally.{tally}
-use Rattle.arith.proofs.RunLaws.{Filling, filling_start, filling_length, filling_part, filling_whole, part_length, part_at, upto_length, upto_at, upto_add, upto_same, upto_most}
+use Rattle.arith.proofs.RunLaws.{Filling, filling_start, filling_at, filling_length, filling_part, filling_whole, part_length, part_at, upto_length, upto_at, upto_add, upto_same, upto_most}
 use Rattle.arith.proofs.TallyLaws.{tally_append, tally_most}
 use Rattle.screen.specs.declared.Screen.{Screen}
 use Rattle.separation.specs.declared.Separation.{Separation}
@@ -38,25 +38,23 @@ inks_of_part input columns from i l =
     byte k m h q = part_at (3 * from) (3 * (from + columns)) input k (omega arith) ∙ ap (λ (z : ℕ). get_or input z 0) q
 
 -- the cells of row j by its part of the input are the window's next
-pub next_cells : (s : Screen) (sep : Separation) (input : List ℕ) (columns : ℕ) (f : ℕ → ℕ → ℕ) (g : ℕ → ℕ) (j from : ℕ) → from ≡ j * columns → ((i : ℕ) → g i ≡ f i j)
-    → cells_by s sep (part input (3 * from) (3 * (from + columns))) g columns ≡ upto (λ i. cell_in s sep input columns f (from + i)) columns
+pub next_cells : (s : Screen) (sep : Separation) (input : List ℕ) (columns : ℕ) (f : ℕ → ℕ → ℕ) (g : ℕ → ℕ) (j : ℕ) → ((i : ℕ) → g i ≡ f i j)
+    → cells_by s sep (part input (3 * (j * columns)) (3 * (j * columns + columns))) g columns ≡ upto (λ i. cell_in s sep input columns f (j * columns + i)) columns
 unfolding cells_by cell_in
-next_cells s sep input columns f g j from e same =
-    upto_same _ _ columns (λ i l.
-    let across : (from + i) % columns ≡ i = rw e (digits_mod j l) in
-    let down : (from + i) / columns ≡ j = rw e (digits_div j l) in
-    rw (across, down, inks_of_part input columns from i l, same i))
+next_cells s sep input columns f g j same =
+    upto_same _ _ columns (λ i l. rw (digits_mod j l, digits_div j l, inks_of_part input columns (j * columns) i l, same i))
 
 -- ---- the loop
 
-pub record WindowAt (cell : ℕ → ℕ) (columns : ℕ) (out₀ out tallies : List ℕ) (j from : ℕ) : Type 0 where
-  pub place : from ≡ j * columns
-  pub cells : Filling cell out₀ out from
-  pub counts : tallies ≡ tallies_of (upto cell from)
+pub record WindowAt (cell : ℕ → ℕ) (columns : ℕ) (out₀ out tallies : List ℕ) (j : ℕ) : Type 0 where
+  pub cells : Filling cell out₀ out (j * columns)
+  pub counts : tallies ≡ tallies_of (upto cell (j * columns))
 
-pub window_start : (cell : ℕ → ℕ) (columns : ℕ) (out : List ℕ) → WindowAt cell columns out out (0 ∷ 0 ∷ 0 ∷ 0 ∷ 0 ∷ 0 ∷ 0 ∷ 0 ∷ []) 0 0
+pub window_start : (cell : ℕ → ℕ) (columns : ℕ) (out : List ℕ) → WindowAt cell columns out out (0 ∷ 0 ∷ 0 ∷ 0 ∷ 0 ∷ 0 ∷ 0 ∷ 0 ∷ []) 0
 unfolding upto tally tallies_of
-window_start cell columns out = record { place = omega arith; cells = filling_start _ out; counts = refl }
+window_start cell columns out =
+    let none : 0 ≡ 0 * columns = omega arith in
+    record { cells = filling_at (filling_start _ out) none; counts = ap (λ (k : ℕ). tallies_of (upto cell k)) none }
 
 -- tallies with those of some more cells are the tallies of all of them
 tallied_more : (cells more : List ℕ) {tallies : List ℕ} → tallies ≡ tallies_of cells → tallied_on tallies more ≡ tallies_of (cells ++ more)
@@ -64,7 +62,7 @@ unfolding tallied_on tallies_of
 tallied_more cells more e =
     upto_same _ _ 8 (λ k l. ap (λ (t : ℕ). t + tally k more) (ap (λ (t : List ℕ). get_or t k 0) e ∙ upto_at _ 8 k l) ∙ sym (tally_append k cells more))
 
-module _ {cell : ℕ → ℕ} {columns : ℕ} {out₀ out tallies : List ℕ} {j from : ℕ} (v : WindowAt cell columns out₀ out tallies j from) where
+module _ {cell : ℕ → ℕ} {columns : ℕ} {out₀ out tallies : List ℕ} {j : ℕ} (v : WindowAt cell columns out₀ out tallies j) where
   pub window_length : length out ≡ length out₀
   window_length = filling_length v.cells
 
@@ -73,28 +71,28 @@ module _ {cell : ℕ → ℕ} {columns : ℕ} {out₀ out tallies : List ℕ} {j
   window_eight = ap length v.counts ∙ upto_length _ 8
 
   -- a tally is at most the number of cells written
-  window_count : (k : ℕ) → get_or tallies k 0 ≤ from
+  window_count : (k : ℕ) → get_or tallies k 0 ≤ j * columns
   unfolding tallies_of
-  window_count k = rw v.counts (upto_most _ 8 k from (omega (arith, tally_most k (upto cell from), upto_length cell from)))
+  window_count k = rw v.counts (upto_most _ 8 k (j * columns) (omega (arith, tally_most k (upto cell (j * columns)), upto_length cell (j * columns))))
 
   module _ {rows : ℕ} (h : j < rows) where
     -- a row before the last ends within the window
-    pub next_fits : from + columns ≤ columns * rows
-    next_fits = omega (arith, v.place, mul-le-mul_right columns h)
+    pub next_fits : j * columns + columns ≤ columns * rows
+    next_fits = omega (arith, mul-le-mul_right columns h)
 
     module _ {x y inputs : ℕ} (w : RowsLent x y columns rows inputs (length out₀)) where
       -- few enough cells are written with it
-      pub next_few : from + columns ≤ 65536 * 65536
+      pub next_few : j * columns + columns ≤ 65536 * 65536
       next_few = omega (arith, next_fits, area_limit x y columns rows w.wide w.high)
 
       -- the parts that are lent for it
-      pub out_part : length (part out from (from + columns)) ≡ columns
-      out_part = part_length from columns out (omega (arith, window_length, next_fits, w.cells))
+      pub out_part : length (part out (j * columns) (j * columns + columns)) ≡ columns
+      out_part = part_length (j * columns) columns out (omega (arith, window_length, next_fits, w.cells))
 
       pub row_lent : (input : List ℕ) → length input ≡ inputs
-          → RowLent (length (part input (3 * from) (3 * (from + columns)))) (length (part out from (from + columns))) tallies
+          → RowLent (length (part input (3 * (j * columns)) (3 * (j * columns + columns)))) (length (part out (j * columns) (j * columns + columns))) tallies
       row_lent input e =
-          let bytes : length (part input (3 * from) (3 * (from + columns))) ≡ 3 * columns = simp (length-take, length-drop) (omega (arith, next_fits, w.bytes)) in
+          let bytes : length (part input (3 * (j * columns)) (3 * (j * columns + columns))) ≡ 3 * columns = simp (length-take, length-drop) (omega (arith, next_fits, w.bytes)) in
           record {
             bytes = bytes ∙ ap (λ (k : ℕ). 3 * k) (sym out_part);
             eight = window_eight;
@@ -102,17 +100,16 @@ module _ {cell : ℕ → ℕ} {columns : ℕ} {out₀ out tallies : List ℕ} {j
           }
 
       -- and what is written with it
-      pub window_step : (row tallies' : List ℕ) → row ≡ upto (λ i. cell (from + i)) columns → tallies' ≡ tallied_on tallies row
-          → WindowAt cell columns out₀ (put_mid from (from + columns - from) out row) tallies' (j + 1) (from + columns)
+      pub window_step : (row tallies' : List ℕ) → row ≡ upto (λ i. cell (j * columns + i)) columns → tallies' ≡ tallied_on tallies row
+          → WindowAt cell columns out₀ (put_mid (j * columns) (j * columns + columns - j * columns) out row) tallies' (j + 1)
       window_step row tallies' next more =
           record {
-            place = omega (arith, v.place);
-            cells = filling_part v.cells columns row (omega (arith, next_fits, w.cells)) next;
-            counts = more ∙ ap (tallied_on tallies) next ∙ tallied_more _ _ v.counts ∙ ap tallies_of (sym (upto_add cell from columns));
+            cells = filling_at (filling_part v.cells columns row (omega (arith, next_fits, w.cells)) next) (omega arith);
+            counts = more ∙ ap (tallied_on tallies) next ∙ tallied_more _ _ v.counts ∙ ap tallies_of (sym (upto_add cell (j * columns) columns)) ∙ ap (λ (k : ℕ). tallies_of (upto cell k)) (omega arith);
           }
 
   pub window_end : (rows : ℕ) → rows ≤ j → length out₀ ≡ columns * rows → (out ≡ upto cell (length out₀)) × (tallies ≡ tallies_of out)
   window_end rows h e =
-      let all : columns * rows ≤ from = omega (arith, v.place, mul-le-mul_right columns h) in
+      let all : columns * rows ≤ j * columns = omega (arith, mul-le-mul_right columns h) in
       let whole : out ≡ upto cell (length out₀) = filling_whole v.cells (length out₀) refl (omega arith) in
       (whole, v.counts ∙ ap tallies_of (ap (upto cell) (omega (arith, v.cells.within)) ∙ sym whole))

@@ -15,9 +15,8 @@ use Rattle.quantiser.specs.Running.{count}
 use Rattle.quantiser.specs.Subscreens.{subscreen_of}
 use Rattle.quantiser.specs.Laws.{ShareRounded, SplitEvenly}
 use Rattle.render.specs.declared.Window.{Window}
-use Rattle.render.specs.declared.Rendering.{Rendering}
 use Rattle.render.specs.Windows.{area, inks_at}
-use Rattle.render.specs.Answers.{rendering, rendered, brick_rendering, brick_rendered}
+use Rattle.render.specs.Answers.{Rendering, rendering, rendered, brick_rendering, brick_rendered}
 
 -- rule 13.1: a window of u by v bricks on the sheet, with the same ink values everywhere, and with runs of the right lengths
 pub record Brickwork (s : Screen) (w : Window) (inks : Inks) (u v : ℕ) (input : List ℕ) (outputs : ℕ) : Type 0 where

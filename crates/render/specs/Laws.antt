@@ -7,8 +7,7 @@ use Rattle.screen.specs.declared.Screen.{Screen}
 use Rattle.separation.specs.declared.Separation.{Separation}
 use Rattle.separation.specs.declared.Inks.{Inks}
 use Rattle.render.specs.declared.Window.{Window}
-use Rattle.render.specs.declared.Rendering.{Rendering}
-use Rattle.render.specs.Answers.{answer_of, rendering, rendered, brick_rendering, lone_cell}
+use Rattle.render.specs.Answers.{Rendering, answer_of, rendering, rendered, brick_rendering, lone_cell}
 
 -- rule 11.3: a refused renderer answers its refusal and eight zeros
 abbrev pub AnswerRefused : Type 0

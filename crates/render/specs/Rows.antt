@@ -10,7 +10,7 @@ use Rattle.screen.specs.Screens.{Admitted}
 use Rattle.screen.specs.Brick.{brick_place}
 use Rattle.separation.specs.declared.Separation.{Separation}
 use Rattle.separation.specs.declared.Inks.{Inks}
-use Rattle.separation.specs.Weights.{inks_of, scale_of}
+use Rattle.separation.specs.Weights.{scale_of}
 use Rattle.quantiser.specs.Subscreens.{colorant_of}
 use Rattle.quantiser.specs.Leaves.{threshold_of, levels_of, rank}
 use Rattle.render.specs.declared.cells.Paint.{Paint}
@@ -78,9 +78,7 @@ pub record RowsLent (x y columns rows inputs outputs : ℕ) : Type 0 where
 unfoldable pub paint_of : ℕ → Separation → Inks → ℕ → Paint
 paint_of n sep inks t =
     record {
-      c = inks.c;
-      m = inks.m;
-      y = inks.y;
+      inks = inks;
       unit = 2 * scale_of sep;
       levels = levels_of n sep inks;
       cell = rank (levels_of n sep inks) (2 * scale_of sep * t);
@@ -88,4 +86,4 @@ paint_of n sep inks t =
 
 -- a paint's levels are those of its own ink values, and its unit is the separation's
 abbrev pub Own : ℕ → Separation → Paint → Type 0
-Own n sep paint = (paint.unit ≡ 2 * scale_of sep) × (paint.levels ≡ levels_of n sep (inks_of paint.c paint.m paint.y))
+Own n sep paint = (paint.unit ≡ 2 * scale_of sep) × (paint.levels ≡ levels_of n sep paint.inks)

@@ -1,66 +1,55 @@
-// A row of cells whose phases are read from a brick.
-ghost use Rattle.std.specs.Prelude.{◌≡◌, ℕ, ◌+◌, ◌%◌, ◌≤◌, ◌<◌, length, get_or};
-ghost use Rattle.render.specs.Rows.{Table, BrickLent, number_read, Cells, RowLent, tallied_on};
+// Phases that are read from a brick.
+ghost use Rattle.std.specs.Prelude.{◌≡◌, ◌+◌, ◌%◌, ◌≤◌, ◌<◌, length, get_or};
+ghost use Rattle.render.specs.Rows.{BrickLent, number_read};
 
-use crate::cells::{carry, painted, unpainted};
+use crate::phases::{Phases, Source};
 use screen::Brick;
-use separation::Separation;
 
-// Writes the cells of the row y from column x on, their phases read from a brick of so many columns and
-// rows and such a shift, and adds them to the tallies.
-pub(crate) fn brick_row(
-    n: u32,
-    sep: Separation,
-    table: &[u16],
-    brick: &[u16],
-    size: Brick,
-    x: u32,
-    y: u32,
-    input: &[u8],
-    out: &mut [u8],
-    tallies: &mut [u64; 8],
-)
-    requires table { Table n table.now × BrickLent n size brick.now × (y < 65536) }
-    requires row_lent { RowLent (length input.now) (length out.old) tallies.old }
-    ensures cells { Cells n sep table.now input.now (λ i. number_read size brick.now (x + i) y) (length out.old) out.new }
-    ensures counts { tallies.new ≡ tallied_on tallies.old out.new }
-{
-    let columns = size.columns;
-    let rows = size.rows;
-    let shift = size.shift;
-    let behind = shift * (y / rows) % columns;
-    let first = (x % columns + columns - behind) % columns;
-    let from = (y % rows * columns) as usize;
-    let to = from + columns as usize;
-    line(n, sep, table, &brick[from..to], first, input, out, tallies);
+// A brick of n places in columns and rows, with any numbers below n in them.
+#[derive(Clone, Copy)]
+pub(crate) struct Lent<'a> {
+    pub(crate) n: u32,
+    pub(crate) size: Brick,
+    pub(crate) brick: &'a [u16],
+    ghost lent: { BrickLent n size brick.now },
+    ghost few: { n ≤ 4096 },
 }
 
-// Writes cells whose phases are the numbers of a brick's line from place `first` on, over and over.
-fn line(
-    n: u32,
-    sep: Separation,
-    table: &[u16],
-    phases: &[u16],
-    first: u32,
-    input: &[u8],
-    out: &mut [u8],
-    tallies: &mut [u64; 8],
-)
-    requires table { Table n table.now × (first < length phases.now) × (length phases.now ≤ 4096) × ((i : ℕ) → i < length phases.now → get_or phases.now i 0 < n) }
-    requires row_lent { RowLent (length input.now) (length out.old) tallies.old }
-    ensures cells { Cells n sep table.now input.now (λ i. get_or phases.now ((first + i) % length phases.now) 0) (length out.old) out.new }
-    ensures counts { tallies.new ≡ tallied_on tallies.old out.new }
-{
-    let columns = phases.len() as u32;
-    let mut paint = unpainted(n, sep);
-    let mut column = first;
-    for i in 0..out.len() {
-        let phase = phases[column as usize];
-        paint = painted(paint, n, sep, input, i, table[phase as usize]);
-        let cell = paint.cell;
-        out[i] = cell;
-        let j = cell as usize;
-        tallies[j] = tallies[j] + 1;
-        column = carry(column, 1, columns);
+impl<'a> Source for Lent<'a> {
+    type Row = Around<'a>;
+
+    ghost number = { λ s. number_read s.size s.brick.now };
+
+    // The line of row y, from the column on that x has in it.
+    fn row(&self, x: u32, y: u32) -> Around<'a> {
+        let Brick { columns, rows, shift } = self.size;
+        let behind = shift * (y / rows) % columns;
+        let first = (x % columns + columns - behind) % columns;
+        let from = (y % rows * columns) as usize;
+        let to = from + columns as usize;
+        Around {
+            line: &self.brick[from..to],
+            column: first,
+        }
+    }
+}
+
+// The numbers of a brick's line from a column on, over and over.
+#[derive(Clone, Copy)]
+pub(crate) struct Around<'a> {
+    pub(crate) line: &'a [u16],
+    pub(crate) column: u32,
+    ghost within: { column < length line.now },
+    ghost short: { length line.now ≤ 4096 },
+}
+
+impl Phases for Around<'_> {
+    ghost at = { λ s i. get_or s.line.now ((s.column + i) % length s.line.now) 0 };
+
+    #[tactic(auto, using(crate::proofs::RowLoop::round_first, crate::proofs::RowLoop::round_on))]
+    fn next(&mut self) -> u32 {
+        let phase = self.line[self.column as usize];
+        self.column = arith::carry(self.column, 1, self.line.len() as u32);
+        u32::from(phase)
     }
 }

@@ -3,9 +3,11 @@
 
 mod bricks;
 mod cells;
+mod phases;
 mod refusals;
 mod rows;
 mod windows;
+mod worked;
 
 pub use windows::{cell_at, render, render_brick};
 
@@ -16,18 +18,4 @@ pub struct Window {
     pub y: u32,
     pub columns: u32,
     pub rows: u32,
-}
-
-// How many cells were written in each colorant, or the number of what refuses the call.
-#[derive(Clone, Copy)]
-pub struct Rendering {
-    pub refusal: u32,
-    pub tallies: [u64; 8],
-}
-
-// The colorant of a place, or the number of what refuses it.
-#[derive(Clone, Copy)]
-pub struct Cell {
-    pub refusal: u32,
-    pub colorant: u32,
 }

@@ -1,35 +1,67 @@
-// A row of cells whose phases are worked out: the phase is carried from cell to cell.
-ghost use Rattle.std.specs.Prelude.{◌≡◌, ◌+◌, ◌*◌, ◌%◌, ◌≤◌, ◌<◌, length};
-ghost use Rattle.render.specs.Rows.{Table, Cells, RowLent, tallied_on};
+// Painting a window row after row, wherever the phases of its cells come from.
+ghost use Rattle.std.specs.Prelude.{◌≡◌, ℕ, ◌+◌, ◌/◌, ◌%◌, ◌<◌, length};
+ghost use Rattle.render.specs.Windows.{tallies_of};
+ghost use Rattle.render.specs.Rows.{TableOf, Cells, RowLent, RowsLent, tallied_on};
 
-use crate::cells::{carry, painted, unpainted};
+use crate::Window;
+use crate::cells::{inks_at, painted, unpainted};
+use crate::phases::{Phases, Source};
+use screen::Screen;
 use separation::Separation;
 
-// Writes the cells of a row on n cells, the first at phase `first` and each next one `step` further on,
-// and adds them to the tallies. The table has the thresholds by phase.
-pub(crate) fn row(
-    n: u32,
-    sep: Separation,
-    table: &[u16],
-    first: u32,
-    step: u32,
-    input: &[u8],
-    out: &mut [u8],
-    tallies: &mut [u64; 8],
-)
-    requires table { Table n table.now × (first < n) × (step ≤ n) }
-    requires row_lent { RowLent (length input.now) (length out.old) tallies.old }
-    ensures cells { Cells n sep table.now input.now (λ i. (first + step * i) % n) (length out.old) out.new }
-    ensures counts { tallies.new ≡ tallied_on tallies.old out.new }
-{
-    let mut paint = unpainted(n, sep);
-    let mut phase = first;
-    for i in 0..out.len() {
-        paint = painted(paint, n, sep, input, i, table[phase as usize]);
-        let cell = paint.cell;
-        out[i] = cell;
-        let j = cell as usize;
-        tallies[j] = tallies[j] + 1;
-        phase = carry(phase, step, n);
+// What cells are painted by: the screen, the separation, and the thresholds by phase.
+#[derive(Clone, Copy)]
+pub(crate) struct Painter<'a> {
+    pub(crate) screen: Screen,
+    pub(crate) sep: Separation,
+    pub(crate) table: &'a [u16],
+    ghost listed: { TableOf screen screen.n table.now },
+}
+
+impl Painter<'_> {
+    // Writes the cells of a window row after row, and answers their tallies.
+    pub(crate) fn rows<S: Source>(
+        &self,
+        source: &S,
+        w: Window,
+        input: &[u8],
+        out: &mut [u8],
+    ) -> [u64; 8]
+        requires phases_low { (x y : ℕ) → S.number source.now x y < self.now.screen.n }
+        requires rows_lent { RowsLent w.x w.y w.columns w.rows (length input.now) (length out.old) }
+        ensures cells { Cells self.now.screen.n self.now.sep self.now.table.now input.now (λ i. S.number source.now (w.x + i % w.columns) (w.y + i / w.columns)) (length out.old) out.new }
+        ensures counts { result ≡ tallies_of out.new }
+    {
+        let wide = w.columns as usize;
+        let mut tallies = [0u64; 8];
+        for j in 0..w.rows {
+            let from = j as usize * wide;
+            let to = from + wide;
+            let phases = source.row(w.x, w.y + j);
+            self.row(phases, &input[3 * from..3 * to], &mut out[from..to], &mut tallies);
+        }
+        tallies
+    }
+
+    // Writes the cells of a row, whose phases are below n, and adds them to the tallies.
+    fn row<P: Phases + Copy>(
+        &self,
+        mut phases: P,
+        input: &[u8],
+        out: &mut [u8],
+        tallies: &mut [u64; 8],
+    )
+        requires phases_low { (i : ℕ) → P.at phases i < self.now.screen.n }
+        requires row_lent { RowLent (length input.now) (length out.old) tallies.old }
+        ensures cells { Cells self.now.screen.n self.now.sep self.now.table.now input.now (P.at phases) (length out.old) out.new }
+        ensures counts { tallies.new ≡ tallied_on tallies.old out.new }
+    {
+        let mut paint = unpainted(self.screen.n, self.sep);
+        for (i, cell) in out.iter_mut().enumerate() {
+            let threshold = self.table[phases.next() as usize];
+            paint = painted(paint, self.screen.n, self.sep, inks_at(input, i), threshold);
+            *cell = paint.cell;
+            tallies[paint.cell as usize] += 1;
+        }
     }
 }

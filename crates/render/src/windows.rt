@@ -1,44 +1,44 @@
-// The renderers.
-ghost use Rattle.std.specs.Prelude.{◌≡◌, ◌+◌, ◌/◌, ◌%◌, length};
+// The renderers, and the cell of a lone place.
+ghost use Rattle.std.specs.Prelude.{◌≡◌, ℕ, length, IfOk};
+ghost use Rattle.arith.specs.Refusal.{number_of};
 ghost use Rattle.screen.specs.Phase.{phase};
 ghost use Rattle.screen.specs.Brick.{TrueBrick};
-ghost use Rattle.arith.specs.Run.{zeros};
-ghost use Rattle.render.specs.Answers.{rendering, rendered, brick_rendering, brick_rendered, lone_cell};
+ghost use Rattle.render.specs.Windows.{window_cells, tallies_of};
+ghost use Rattle.render.specs.Answers.{window_refusal, told, rendering, rendered, brick_rendering, brick_rendered, lone_cell};
 ghost use Rattle.render.specs.Finished.{FinishedWindow};
-ghost use Rattle.render.specs.Windows.{tallies_of};
-ghost use Rattle.render.specs.Rows.{TableOf, Table, BrickLent, number_read, cells_by, Cells, RowsLent};
 
-use crate::bricks::brick_row;
-use crate::refusals::{brick_due, places, window_refusal};
-use crate::rows::row;
-use crate::{Cell, Rendering, Window};
-use screen::{Brick, Screen};
+use crate::Window;
+use crate::bricks::Lent;
+use crate::phases::Source;
+use crate::refusals::{check_brick, check_window, places};
+use crate::rows::Painter;
+use crate::worked::Worked;
+use arith::Refusal;
+use screen::Screen;
 use separation::{Inks, Separation};
 
-// Renders a window, its phases worked out.
-pub fn render(s: Screen, sep: Separation, w: Window, input: &[u8], out: &mut [u8]) -> Rendering
-    ensures answer { result ≡ rendering s sep w input.now out.old }
+// Renders a window, its phases worked out: how many cells were written in each colorant.
+pub fn render(
+    s: Screen,
+    sep: Separation,
+    w: Window,
+    input: &[u8],
+    out: &mut [u8],
+) -> Result<[u64; 8], Refusal>
+    ensures refused { number_of result ≡ (rendering s sep w input.now out.old).refusal }
+    ensures tallies { IfOk result (λ tallies. tallies ≡ (rendering s sep w input.now out.old).tallies) }
     ensures cells { out.new ≡ rendered s sep w input.now out.old }
-    ensures finished { FinishedWindow s sep w input.now (length out.old) result out.new }
+    ensures finished { FinishedWindow s sep w input.now (length out.old) (told result) out.new }
 {
-    let refused = window_refusal(s, w, input.len(), out.len());
-    if refused != 0 {
-        return nothing(refused);
-    }
-    // No cells, and nothing to ask of columns below.
-    if out.len() == 0 {
-        return nothing(0);
-    }
-    let mut table = places();
-    quantiser::thresholds(s, &mut table);
-    let tallies = worked_rows(s, sep, &table, w.x, w.y, w.columns, w.rows, input, out);
-    Rendering {
-        refusal: 0,
-        tallies: tallies,
-    }
+    check_window(s, w, input.len(), out.len())?;
+    let phases = Worked {
+        screen: s,
+        step: s.a % s.n,
+    };
+    Ok(paint(s, sep, &phases, w, input, out))
 }
 
-// Renders a window, its phases read from a lent brick.
+// Renders a window, its phases read from a lent brick: how many cells were written in each colorant.
 pub fn render_brick(
     s: Screen,
     sep: Separation,
@@ -46,142 +46,64 @@ pub fn render_brick(
     input: &[u8],
     brick: &[u16],
     out: &mut [u8],
-) -> Rendering
-    ensures answer { result ≡ brick_rendering s sep w input.now brick.now out.old }
+) -> Result<[u64; 8], Refusal>
+    ensures refused { number_of result ≡ (brick_rendering s sep w input.now brick.now out.old).refusal }
+    ensures tallies { IfOk result (λ tallies. tallies ≡ (brick_rendering s sep w input.now brick.now out.old).tallies) }
     ensures cells { out.new ≡ brick_rendered s sep w input.now brick.now out.old }
-    ensures finished { TrueBrick s brick.now → FinishedWindow s sep w input.now (length out.old) result out.new }
+    ensures finished { TrueBrick s brick.now → FinishedWindow s sep w input.now (length out.old) (told result) out.new }
 {
-    let refused = window_refusal(s, w, input.len(), out.len());
-    if refused != 0 {
-        return nothing(refused);
-    }
-    if !brick_due(s, brick) {
-        return nothing(8);
-    }
+    check_window(s, w, input.len(), out.len())?;
+    check_brick(s, brick)?;
+    let phases = Lent {
+        n: s.n,
+        size: screen::brick_of(s)?,
+        brick,
+    };
+    Ok(paint(s, sep, &phases, w, input, out))
+}
+
+// Paints a window that nothing refuses, whatever its phases come from, and answers the tallies of its cells.
+fn paint<S: Source>(
+    s: Screen,
+    sep: Separation,
+    phases: &S,
+    w: Window,
+    input: &[u8],
+    out: &mut [u8],
+) -> [u64; 8]
+    requires served { window_refusal s w (length input.now) (length out.old) ≡ 0 }
+    requires phases { (x y : ℕ) → S.number phases.now x y ≡ phase s x y }
+    ensures cells { out.new ≡ window_cells s sep w input.now }
+    ensures counts { result ≡ tallies_of out.new }
+{
     // No cells, and nothing to ask of columns below.
-    if out.len() == 0 {
-        return nothing(0);
+    if out.is_empty() {
+        return [0; 8];
     }
     let mut table = places();
     quantiser::thresholds(s, &mut table);
-    let size = screen::brick_of(s);
-    let tallies = read_rows(
-        s.n, sep, &table, brick, size, w.x, w.y, w.columns, w.rows, input, out,
-    );
-    Rendering {
-        refusal: 0,
-        tallies: tallies,
-    }
+    let painter = Painter {
+        screen: s,
+        sep,
+        table: &table,
+    };
+    painter.rows(phases, w, input, out)
 }
 
 // The colorant of a lone place, without a table: its phase alone is worked out, and its threshold.
-pub fn cell_at(s: Screen, sep: Separation, x: u32, y: u32, inks: Inks) -> Cell
-    ensures { result ≡ lone_cell s sep x y inks }
-{
-    let place = screen::phase_at(s, x, y);
-    if place.refusal != 0 {
-        return Cell {
-            refusal: place.refusal,
-            colorant: 0,
-        };
-    }
-    let threshold = quantiser::threshold(s, place.phase);
-    let bar = 2 * separation::scale(sep) * threshold as u64;
-    let colorant = quantiser::colorant_of(quantiser::levels(s.n, sep, inks), bar);
-    Cell {
-        refusal: 0,
-        colorant: colorant as u32,
-    }
-}
-
-// An answer with no cell in any colorant.
-fn nothing(refusal: u32) -> Rendering
-    ensures { result ≡ record { refusal = refusal; tallies = zeros 8 } }
-{
-    Rendering {
-        refusal: refusal,
-        tallies: [0u64; 8],
-    }
-}
-
-// Renders the rows of a window, their phases worked out.
-fn worked_rows(
+#[tactic(auto, using(quantiser::proofs::Published::scale_limit), unfolding(crate::specs::Answers::lone_cell))]
+pub fn cell_at(
     s: Screen,
     sep: Separation,
-    table: &[u16],
     x: u32,
     y: u32,
-    columns: u32,
-    rows: u32,
-    input: &[u8],
-    out: &mut [u8],
-) -> [u64; 8]
-    requires { TableOf s s.n table.now × RowsLent x y columns rows (length input.now) (length out.old) }
-    ensures cells { out.new ≡ cells_by s sep input.now (λ i. phase s (x + i % columns) (y + i / columns)) (length out.old) }
-    ensures counts { result ≡ tallies_of out.new }
+    inks: Inks,
+) -> Result<u8, Refusal>
+    ensures refused { number_of result ≡ (lone_cell s sep x y inks).refusal }
+    ensures colorant { IfOk result (λ colorant. colorant ≡ (lone_cell s sep x y inks).colorant) }
 {
-    let wide = columns as usize;
-    let step = s.a % s.n;
-    let mut tallies = [0u64; 8];
-    let mut from = 0;
-    for j in 0..rows {
-        let to = from + wide;
-        let phase = screen::phase_at(s, x, y + j).phase;
-        let a = 3 * from;
-        let b = 3 * to;
-        row(
-            s.n,
-            sep,
-            table,
-            phase,
-            step,
-            &input[a..b],
-            &mut out[from..to],
-            &mut tallies,
-        );
-        from = to;
-    }
-    tallies
-}
-
-// Renders the rows of a window, their phases read from a brick.
-fn read_rows(
-    n: u32,
-    sep: Separation,
-    table: &[u16],
-    brick: &[u16],
-    size: Brick,
-    x: u32,
-    y: u32,
-    columns: u32,
-    rows: u32,
-    input: &[u8],
-    out: &mut [u8],
-) -> [u64; 8]
-    requires { Table n table.now × BrickLent n size brick.now × RowsLent x y columns rows (length input.now) (length out.old) }
-    ensures cells { Cells n sep table.now input.now (λ i. number_read size brick.now (x + i % columns) (y + i / columns)) (length out.old) out.new }
-    ensures counts { result ≡ tallies_of out.new }
-{
-    let wide = columns as usize;
-    let mut tallies = [0u64; 8];
-    let mut from = 0;
-    for j in 0..rows {
-        let to = from + wide;
-        let a = 3 * from;
-        let b = 3 * to;
-        brick_row(
-            n,
-            sep,
-            table,
-            brick,
-            size,
-            x,
-            y + j,
-            &input[a..b],
-            &mut out[from..to],
-            &mut tallies,
-        );
-        from = to;
-    }
-    tallies
+    let phase = screen::phase_at(s, x, y)?;
+    let threshold = quantiser::threshold(s, phase);
+    let bar = 2 * separation::scale(sep) * u64::from(threshold);
+    Ok(quantiser::colorant_of(quantiser::levels(s.n, sep, inks), bar))
 }

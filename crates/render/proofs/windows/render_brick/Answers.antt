@@ -1,53 +1,55 @@
--- `render::windows::render_brick` meets its contract: refused, empty or rendered (AnswerLaws), its phases read from a true brick
+-- `render::windows::render_brick` meets its contract: refused or rendered (AnswerLaws, FinishedLaws), its phases read from a true brick
 -- (BrickRow).
 -- Assumes nothing.
-use mathlib.Core.Path.{sym, ◌∙◌}
+use mathlib.Core.Path.{◌≡◌, sym, ap, ◌∙◌}
 use native.Mathlib.Omega.{arith}
-use Rattle.arith.proofs.RefusalLaws.{failed, passed}
-use Rattle.screen.proofs.Published.{brick_answered}
-use Rattle.render.proofs.RefusalLaws.{window_kept, due_true, brick_window, brick_undue, brick_whole}
-use Rattle.render.proofs.AnswerLaws.{answer_none, answer_empty, answer_whole, cells_length_lem, cells_are, rows_lent, table_of}
+use lib.ListN.{length}
+use Rattle.std.proofs.Common.{rules, Ok}
+use Rattle.arith.specs.Refusal.{unless, number_of}
+use Rattle.arith.proofs.RefusalLaws.{number_above}
+use Rattle.screen.proofs.Published.{admitted_words}
+use Rattle.render.specs.Answers.{window_refusal, due_in}
+use Rattle.render.proofs.RefusalLaws.{window_kept, due_true, due_passed, brick_window, brick_undue, brick_whole}
+use Rattle.render.proofs.AnswerLaws.{answer_none, answer_whole, cells_length_lem}
 use Rattle.render.proofs.FinishedLaws.{read_keeps}
 use Rattle.render.proofs.BrickRow.{brick_lent, brick_reads}
 use Rattle.render.proofs.windows.render_brick.Goals as goal
 
-pub returns-then-refused-ne0 : goal.returns-then-refused-ne0
-returns-then-refused-ne0 c =
-    let e = c.window_refusal-refused.ensures in
-    let told = read_keeps c.args.s c.args.sep c.args.w c.args.input.now c.args.brick.now c.args.out.now (answer_none _ _ _ _ (e ∙ brick_window _ _ _ _ _ (λ z. c.if-refused-ne0.true (e ∙ z))) c.if-refused-ne0.true c.nothing.ensures) in
-    record { answer = told.0; cells = told.1.0; finished = told.1.1 }
+pub returns-in_err-check_window : goal.returns-in_err-check_window
+returns-in_err-check_window c =
+    let same : number_of c.from_residual.result ≡ window_refusal c.args.s c.args.w (length c.args.input.now) (length c.args.out.now) = search rules in
+    let told = read_keeps c.args.s c.args.sep c.args.w c.args.input.now c.args.brick.now c.args.out.now _ (answer_none _ _ _ _ c.from_residual.ensures.0 (same ∙ brick_window _ _ _ _ _ (λ z. omega (arith, number_above c.in_err-check_window.field-0.0, c.in_err-check_window.ensures, z)))) in
+    record { refused = told.refused; tallies = told.tallies; cells = told.cells; finished = told.finished }
 
-pub brick_due-requires : goal.brick_due-requires
-brick_due-requires c = (window_kept _ _ _ _ (sym c.window_refusal-refused.ensures ∙ c.if-refused-ne0.false)).0
+pub check_brick-requires : goal.check_brick-requires
+check_brick-requires c = (window_kept _ _ _ _ (sym c.in_ok-check_window.ensures)).0
 
-pub returns-then-not-brick_due : goal.returns-then-not-brick_due
-returns-then-not-brick_due c =
-    let e = sym c.window_refusal-refused.ensures ∙ c.if-refused-ne0.false in
-    let told = read_keeps c.args.s c.args.sep c.args.w c.args.input.now c.args.brick.now c.args.out.now (answer_none _ _ _ 8 (brick_undue _ _ _ _ _ e (failed c.brick_due.ensures c.if-not-brick_due.true)) (λ z. omega (arith, z)) c.nothing-then-not-brick_due.ensures) in
-    record { answer = told.0; cells = told.1.0; finished = told.1.1 }
+pub returns-in_err-check_brick : goal.returns-in_err-check_brick
+returns-in_err-check_brick c =
+    let same : number_of c.from_residual-in_err-check_brick.result ≡ unless (due_in c.args.s c.args.brick.now) 8 0 = search rules in
+    let told = read_keeps c.args.s c.args.sep c.args.w c.args.input.now c.args.brick.now c.args.out.now _ (answer_none _ _ _ _ c.from_residual-in_err-check_brick.ensures.0 (same ∙ brick_undue _ _ _ _ _ c.in_ok-check_window.ensures)) in
+    record { refused = told.refused; tallies = told.tallies; cells = told.cells; finished = told.finished }
 
-pub returns-then-out-eq0 : goal.returns-then-out-eq0
-returns-then-out-eq0 c =
-    let e = sym c.window_refusal-refused.ensures ∙ c.if-refused-ne0.false in
-    let r = sym (brick_whole _ _ _ _ _ e (passed c.brick_due.ensures c.if-not-brick_due.false)) in
-    let told = read_keeps c.args.s c.args.sep c.args.w c.args.input.now c.args.brick.now c.args.out.now (answer_empty _ _ _ r (cells_length_lem _ _ _ _ ∙ sym (window_kept _ _ _ _ e).4 ∙ c.if-out-eq0.true) c.if-out-eq0.true c.nothing-then-out-eq0.ensures) in
-    record { answer = told.0; cells = told.1.0; finished = told.1.1 }
+pub returns-in_err-brick_of : goal.returns-in_err-brick_of
+returns-in_err-brick_of c =
+    let ok = (window_kept _ _ _ _ (sym c.in_ok-check_window.ensures)).0 in
+    absurd (omega (arith, number_above c.in_err-brick_of.field-0.0, c.in_err-brick_of.ensures.refused, ok))
 
-pub read_rows-tallies-requires : goal.read_rows-tallies-requires
-read_rows-tallies-requires c =
-    let e = sym c.window_refusal-refused.ensures ∙ c.if-refused-ne0.false in
-    let ok = (window_kept _ _ _ _ e).0 in
-    let holds = due_true _ _ ok (passed c.brick_due.ensures c.if-not-brick_due.false) in
-    ((_, table_of _ _ _ ok c.places-table.ensures c.thresholds.ensures.places), brick_lent _ ok _ holds _ (c.brick_of-size.ensures ∙ brick_answered _ ok), rows_lent _ _ _ _ e c.if-out-eq0.false)
+pub invariant_of-phases : goal.invariant_of-phases
+invariant_of-phases c =
+    let ok = (window_kept _ _ _ _ (sym c.in_ok-check_window.ensures)).0 in
+    let holds = due_true _ _ ok (due_passed _ _ c.in_ok-check_brick.ensures) in
+    record { lent = brick_lent _ ok _ holds _ c.in_ok-brick_of.ensures.brick; few = ((admitted_words _).0 ok).cells_limit }
+
+pub paint-requires-clause-phases : goal.paint-requires-clause-phases
+paint-requires-clause-phases c =
+    let ok = (window_kept _ _ _ _ (sym c.in_ok-check_window.ensures)).0 in
+    let holds = due_true _ _ ok (due_passed _ _ c.in_ok-check_brick.ensures) in
+    brick_reads _ ok _ holds _ c.in_ok-brick_of.ensures.brick
 
 pub returns : goal.returns
 returns c =
-    let e = sym c.window_refusal-refused.ensures ∙ c.if-refused-ne0.false in
-    let tells = passed c.brick_due.ensures c.if-not-brick_due.false in
-    let kept = window_kept _ _ _ _ e in
-    let holds = due_true _ _ kept.0 tells in
-    let reads = brick_reads _ kept.0 c.args.brick.now holds _ (c.brick_of-size.ensures ∙ brick_answered _ kept.0) in
-    let table = table_of _ _ _ kept.0 c.places-table.ensures c.thresholds.ensures.places in
-    let cells = cells_are _ _ c.args.w _ _ (λ i. reads _ _) _ (c.read_rows-tallies.ensures.cells _ table) kept.4 in
-    let told = read_keeps c.args.s c.args.sep c.args.w c.args.input.now c.args.brick.now c.args.out.now (answer_whole _ _ _ (sym (brick_whole _ _ _ _ _ e tells)) (cells_length_lem _ _ _ _ ∙ sym kept.4) cells c.read_rows-tallies.ensures.counts) in
-    record { answer = told.0; cells = told.1.0; finished = told.1.1 }
+    let e = sym c.in_ok-check_window.ensures in
+    let tells = due_passed _ _ c.in_ok-check_brick.ensures in
+    let told = read_keeps c.args.s c.args.sep c.args.w c.args.input.now c.args.brick.now c.args.out.now (Ok c.paint.result) (answer_whole _ _ _ (brick_whole _ _ _ _ _ e tells) (cells_length_lem _ _ _ _ ∙ sym (window_kept _ _ _ _ e).4) c.paint.ensures.cells c.paint.ensures.counts) in
+    record { refused = told.refused; tallies = told.tallies; cells = told.cells; finished = told.finished }
