@@ -1,0 +1,4 @@
+use Rattle.predict.proofs.check.Goals as goal
+
+pub returns : goal.returns
+returns c = ?
