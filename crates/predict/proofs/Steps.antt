@@ -2,7 +2,7 @@
 -- Assumes nothing.
 use Prim.Native.Nat.{ℕ, zero, suc, ◌+◌, ◌≤◌, ◌<◌}
 use mathlib.Core.Path.{◌≡◌, refl, sym, ap, subst, ◌∙◌}
-use mathlib.Core.Bool.{Bool, true, false, cond, not, ◌&&◌, ◌||◌, true≢false}
+use mathlib.Core.Bool.{Bool, true, false, not, ◌&&◌, ◌||◌, true≢false}
 use mathlib.Core.List.{List, [], ◌∷◌}
 use mathlib.Core.Logic.{inl, inr}
 use native.Mathlib.Nat.{add-zero, zero-add, suc-ne-zero}
@@ -29,6 +29,7 @@ use Rattle.arith.specs.Refusal.{number}
 use Rattle.arith.specs.Run.{upto}
 use Rattle.arith.specs.Sum.{sum_below, indicator}
 use Rattle.arith.proofs.FirstLaws.{first_none, first_is}
+use Rattle.arith.proofs.RefusalLaws.{number_above}
 use Rattle.arith.proofs.RunLaws.{upto_at}
 use Rattle.arith.proofs.SumLaws.{sum_same, sum_shift}
 use Rattle.screen.specs.declared.Screen.{Screen}
@@ -43,9 +44,6 @@ use Rattle.predict.specs.Prediction.{Prediction, BadPrimary, BadScreen, predicti
 use Rattle.predict.specs.Predicted.{plus_zero, limit, primary, within, admitted, first_bad, found_below, more, total, totals, channel, mean_of, colour_of, predicted}
 use Rattle.predict.specs.Numbered.{numbered_of, predict_refusal, ruled}
 use Rattle.predict.specs.Laws.{AllAdmitted}
-
-pub number_above : (e : Refusal) → 0 < number e
-number_above e = ?
 
 -- ---- sums
 

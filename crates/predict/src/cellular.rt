@@ -7,7 +7,7 @@ ghost use Rattle.predict.specs.Predicted.{primary, found_below};
 ghost use Rattle.predict.specs.Cellular.{record_of, falling_count, weight_at, set_at, cellular_mean, first_bad_set, cellular, numbered_of, ruled};
 
 use crate::order::Falling;
-use crate::{Xyz, ZERO, check, is_admitted, mean};
+use crate::{Xyz, ZERO, is_admitted, mean};
 use arith::Refusal;
 use screen::Screen;
 use separation::{Inks, Separation};
@@ -42,7 +42,7 @@ pub fn predict_cellular(
     ensures answer { cellular_of result ≡ cellular s sep inks primaries.now }
     ensures numbered { numbered_of (cellular_of result) ≡ ruled s sep inks primaries.now }
 {
-    check(s)?;
+    screen::check(s)?;
     let sets = primaries
         .as_array::<VALUES>()
         .ok_or(Refusal::PrimariesLength)?;
@@ -74,11 +74,7 @@ impl Falling {
     fn count_at(&self, k: usize) -> u32
         ensures { result ≡ falling_count (λ j. get_or self.now.counts j 0) k }
     {
-        if k < 8 {
-            self.counts[self.order[k]]
-        } else {
-            0
-        }
+        if k < 8 { self.counts[self.order[k]] } else { 0 }
     }
 
     // The weight of the set at a place.

@@ -6,8 +6,6 @@ mod cellular;
 mod order;
 
 ghost use Rattle.std.specs.Prelude.{◌≡◌, get_or};
-ghost use Rattle.arith.specs.Refusal.{number_of};
-ghost use Rattle.screen.specs.Screens.{refusal_of};
 ghost use Rattle.predict.specs.declared.PredictionError.TheVariants as Error;
 ghost use Rattle.predict.specs.Prediction.{prediction_of};
 ghost use Rattle.predict.specs.Predicted.{primary, within, admitted, first_bad, found_below, more, totals, mean_of, predicted};
@@ -48,13 +46,6 @@ impl From<Refusal> for PredictionError {
     }
 }
 
-fn check(s: Screen) -> Result<(), Refusal>
-    ensures { number_of result ≡ refusal_of s }
-{
-    let _u = s.n;
-    Ok(())
-}
-
 // The colour that a screen's cells give together for one ink triple, each colorant being as its primary.
 pub fn predict(
     s: Screen,
@@ -65,7 +56,7 @@ pub fn predict(
     ensures answer { prediction_of result ≡ predicted s sep inks primaries }
     ensures numbered { numbered_of (prediction_of result) ≡ ruled s sep inks primaries }
 {
-    check(s)?;
+    screen::check(s)?;
     if let Some(colorant) = first_bad(primaries) {
         return Err(PredictionError::Primary(colorant));
     }

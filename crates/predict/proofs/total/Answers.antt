@@ -1,14 +1,11 @@
 -- `predict::total` meets its contract. Assumes nothing.
-use Prim.Native.Nat.{ℕ}
-use mathlib.Core.Path.{◌≡◌, refl, sym, ◌∙◌}
-use native.Mathlib.Omega.{arith}
+use mathlib.Core.Path.{◌∙◌}
 use lib.Ieee.{of_bits}
-use lib.ListN.{get_or, length}
 use borrow.Author.Tests.{tests}
 use Rattle.std.proofs.Common.{rules}
 use Rattle.std.proofs.lemmas.Iterator.{YieldsList-from_slice, YieldsList-from_zip}
 use Rattle.std.proofs.lemmas.Iterator.Consumers.{YieldsList-at, fold_from_yields_List}
-use Rattle.predict.specs.Predicted.{primary, total, totals}
+use Rattle.predict.specs.Predicted.{total}
 use Rattle.predict.proofs.Steps.{one_more, summed_all}
 use Rattle.predict.proofs.total.Goals as goal
 
