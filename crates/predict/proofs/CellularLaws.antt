@@ -79,9 +79,12 @@ module _ (c : ℕ → ℕ) where
   unfolding weight_at
   weight_next k = rw (add-one k)
 
-  pub weight_limit : (m : ℕ) → ((j : ℕ) → j < 8 → c j ≤ m) → (k : ℕ) → k < 8 → weight_at c k ≤ 8 * m
+  weight_limit : (m : ℕ) → ((j : ℕ) → j < 8 → c j ≤ m) → (k : ℕ) → k < 8 → weight_at c k ≤ 8 * m
   unfolding weight_at
   weight_limit m most k l = mul-le-mul (omega arith) (omega (arith, falling_limit m most k))
+
+  pub weight_fits : ((j : ℕ) → j < 8 → c j ≤ 4096) → (k : ℕ) → k < 8 → (k + 1) * (falling_count c k - falling_count c (k + 1)) ≤ 32768
+  weight_fits most k l = rw weight_next (omega (arith, weight_limit 4096 most k l))
 
   weight_quotient : (k : ℕ) → weight_at c k / suc k ≡ falling_count c k - falling_count c (suc k)
   unfolding weight_at
@@ -144,6 +147,9 @@ module _ (c : ℕ → ℕ) where
   module _ (order : List ℕ) (e : order ≡ upto (order_of c) 8) where
     pub listed : (k : ℕ) → k < 8 → get_or order k 0 ≡ order_of c k
     listed k l = rw e (upto_at (order_of c) 8 k l)
+
+    pub count_listed : (k : ℕ) → k < 8 → c (get_or order k 0) ≡ falling_count c k
+    count_listed k l = ap c (listed k l) ∙ sym (falling_at k l)
 
     pub listed_below : (k : ℕ) → k < 8 → get_or order k 0 < 8
     listed_below k l = rw (listed k l) (ordered_below 8 c k l)

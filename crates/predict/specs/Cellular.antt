@@ -12,8 +12,7 @@ use Rattle.separation.specs.declared.Separation.{Separation}
 use Rattle.separation.specs.declared.Inks.{Inks}
 use Rattle.quantiser.specs.Running.{count}
 use Rattle.predict.specs.declared.Xyz.{Xyz}
-use Rattle.predict.specs.declared.cellular.Cellular.{Cellular}
-use Rattle.predict.specs.declared.cellular.Cellular.TheVariants.{Colour, BadSet, Refused}
+use Rattle.predict.specs.CellularPrediction.{Cellular, Colour, BadSet, Refused}
 use Rattle.predict.specs.Predicted.{triple_at, admitted, mean_of}
 use Rattle.predict.specs.Numbered.{Numbered, coloured, refused_as, told}
 

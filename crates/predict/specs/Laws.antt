@@ -12,8 +12,8 @@ use Rattle.separation.specs.declared.Inks.{Inks}
 use Rattle.quantiser.specs.Running.{count}
 use Rattle.quantiser.specs.Laws.{Always}
 use Rattle.predict.specs.declared.Xyz.{Xyz}
-use Rattle.predict.specs.declared.Prediction.TheVariants.{Colour}
-use Rattle.predict.specs.declared.cellular.Cellular.TheVariants as Cellular
+use Rattle.predict.specs.Prediction.{Colour}
+use Rattle.predict.specs.CellularPrediction as Cellular
 use Rattle.predict.specs.Predicted.{primary, admitted, predicted}
 use Rattle.predict.specs.Numbered.{refused_as, ruled}
 use Rattle.predict.specs.Cellular.{holds, values_due, record_of, order_of, weight_at, set_at, cellular}

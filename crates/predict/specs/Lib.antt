@@ -1,3 +1,5 @@
+pub mod Prediction
+pub mod CellularPrediction
 pub mod Predicted
 pub mod Numbered
 pub mod Cellular

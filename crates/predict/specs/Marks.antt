@@ -14,8 +14,8 @@ use Rattle.separation.specs.Weights.{inks_of}
 use Rattle.separation.specs.Marks.{half}
 use Rattle.quantiser.specs.Running.{count}
 use Rattle.predict.specs.declared.Xyz.{Xyz}
-use Rattle.predict.specs.declared.Prediction.TheVariants.{Colour, BadPrimary, BadScreen}
-use Rattle.predict.specs.declared.cellular.Cellular.TheVariants as Cellular
+use Rattle.predict.specs.Prediction.{Colour, BadPrimary, BadScreen}
+use Rattle.predict.specs.CellularPrediction as Cellular
 use Rattle.predict.specs.Predicted.{plus_zero, limit, primary, within, total, channel, predicted}
 use Rattle.predict.specs.Numbered.{numbered_of, ruled}
 use Rattle.predict.specs.Cellular.{holds, order_of, weight_at, set_at, cellular}

@@ -8,8 +8,7 @@ use Rattle.separation.specs.declared.Separation.{Separation}
 use Rattle.separation.specs.declared.Inks.{Inks}
 use Rattle.quantiser.specs.Running.{count}
 use Rattle.predict.specs.declared.Xyz.{Xyz}
-use Rattle.predict.specs.declared.Prediction.{Prediction}
-use Rattle.predict.specs.declared.Prediction.TheVariants.{Colour, BadPrimary, BadScreen}
+use Rattle.predict.specs.Prediction.{Prediction, Colour, BadPrimary, BadScreen}
 use Rattle.predict.specs.Predicted.{plus_zero, primary, first_bad, mean_of}
 
 -- the refusal's number, 0 where there is none; the colorant or the set that 11 carries; and X, Y and Z

@@ -1,7 +1,7 @@
 -- Rules 9.1 to 9.5: the predicted colour. Numbers and operations are those of IEEE 754's binary64, as the library lib.Ieee defines them:
 -- `add`, `mul`, `div` and `of_int` round once, to nearest, ties to even. Cellular.antt takes the limits of a value and the mean from here.
 -- Assumes nothing: these are definitions.
-use Rattle.std.specs.Prelude.{ℕ, zero, suc, ◌+◌, ◌*◌, Bool, false, cond, not, ◌&&◌, List, eqb, ltb, pos, get_or, Float}
+use Rattle.std.specs.Prelude.{ℕ, zero, suc, ◌+◌, ◌*◌, Bool, false, cond, not, ◌&&◌, List, eqb, ltb, pos, get_or, Float, Option, Some, None}
 use Rattle.std.specs.Float.{nan, fin, binary64}
 use Rattle.std.specs.Float.Ieee.{add, mul, div, le, of_int}
 use Rattle.arith.specs.First.{first_below}
@@ -11,8 +11,7 @@ use Rattle.separation.specs.declared.Separation.{Separation}
 use Rattle.separation.specs.declared.Inks.{Inks}
 use Rattle.quantiser.specs.Running.{count}
 use Rattle.predict.specs.declared.Xyz.{Xyz}
-use Rattle.predict.specs.declared.Prediction.{Prediction}
-use Rattle.predict.specs.declared.Prediction.TheVariants.{Colour, BadPrimary, BadScreen}
+use Rattle.predict.specs.Prediction.{Prediction, Colour, BadPrimary, BadScreen}
 
 -- +0, and 200 as 25 × 2 ^ 3
 abbrev pub plus_zero : Float
@@ -35,6 +34,10 @@ admitted p = within p.x && within p.y && within p.z
 -- rule 9.5: the first colorant that has a value which is not admitted, and 8 where there is none
 unfoldable pub first_bad : List Xyz → ℕ
 first_bad ps = first_below 8 (λ j. not (admitted (primary ps j)))
+
+-- a number below n that is looked for, and nothing where it is none of those
+abbrev pub found_below : ℕ → ℕ → Option ℕ
+found_below n i = cond (ltb i n) (Some i) None
 
 -- rule 9.3: a sum with one more product added
 abbrev pub more : Float → ℕ → Float → Float

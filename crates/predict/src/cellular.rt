@@ -1,22 +1,31 @@
 // Cellular prediction: the mean of the primaries of eight sets of colorants (rules 16.1 to 16.8).
-ghost use Rattle.std.specs.Prelude.{◌≡◌, ℕ, ◌^◌, ◌≤◌, ◌<◌, length, get_or};
-ghost use Rattle.arith.specs.Order.{ordered};
+ghost use Rattle.std.specs.Prelude.{◌≡◌, ℕ, ◌≤◌, ◌<◌, get_or};
 ghost use Rattle.arith.specs.Run.{upto};
-ghost use Rattle.predict.specs.Predicted.{primary};
-ghost use Rattle.predict.specs.Cellular.{values_due, record_of, falling_count, weight_at, set_along, Ordering, cellular_mean, first_bad_set, cellular, numbered_of, ruled};
+ghost use Rattle.predict.specs.declared.cellular.CellularError.TheVariants as Error;
+ghost use Rattle.predict.specs.CellularPrediction.{cellular_of};
+ghost use Rattle.predict.specs.Predicted.{primary, found_below};
+ghost use Rattle.predict.specs.Cellular.{record_of, falling_count, weight_at, set_at, cellular_mean, first_bad_set, cellular, numbered_of, ruled};
 
-use crate::order::falling;
-use crate::{Xyz, is_admitted, mean};
+use crate::order::Falling;
+use crate::{Xyz, ZERO, is_admitted, mean};
+use arith::Refusal;
 use screen::Screen;
 use separation::{Inks, Separation};
+use std::array;
 
-// The predicted X, Y and Z, the lowest set that has a value beyond its limits, or the number of what
-// refuses the call.
-#[derive(Clone, Copy)]
-pub enum Cellular {
-    Colour(f64, f64, f64),
-    BadSet(u32),
-    Refused(u32),
+// Why no colour is predicted: what refuses the call, or the lowest set that has a value beyond its limits.
+#[derive(Clone, Copy, Debug, PartialEq, Eq, Hash)]
+pub enum CellularError {
+    Refused(Refusal),
+    Set(u32),
+}
+
+impl From<Refusal> for CellularError {
+    ghost from_gives = { λ refusal error. error ≡ Error.Refused refusal };
+
+    fn from(refusal: Refusal) -> CellularError {
+        CellularError::Refused(refusal)
+    }
 }
 
 // X, Y and Z of each of the 255 sets.
@@ -24,110 +33,89 @@ const VALUES: usize = 765;
 
 // The colour that a screen's cells give together for one ink triple, by the primaries of sets of colorants:
 // three values a set, in the order of the sets' numbers.
-pub fn predict_cellular(s: Screen, sep: Separation, inks: Inks, primaries: &[f64]) -> Cellular
-    ensures answer { result ≡ cellular s sep inks primaries.now }
-    ensures numbered { numbered_of result ≡ ruled s sep inks primaries.now }
+pub fn predict_cellular(
+    s: Screen,
+    sep: Separation,
+    inks: Inks,
+    primaries: &[f64],
+) -> Result<Xyz, CellularError>
+    ensures answer { cellular_of result ≡ cellular s sep inks primaries.now }
+    ensures numbered { numbered_of (cellular_of result) ≡ ruled s sep inks primaries.now }
 {
-    let refused = screen::refusal(s);
-    if refused != 0 {
-        return Cellular::Refused(refused);
+    screen::check(s)?;
+    let sets = primaries
+        .as_array::<VALUES>()
+        .ok_or(Refusal::PrimariesLength)?;
+    if let Some(set) = first_bad_set(sets) {
+        return Err(CellularError::Set(set));
     }
-    if primaries.len() != VALUES {
-        return Cellular::Refused(14);
-    }
-    let bad = first_bad_set(primaries);
-    if bad < 256 {
-        return Cellular::BadSet(bad);
-    }
-    let colour = mean_of_sets(quantiser::counted(s, sep, inks), s.n, primaries);
-    Cellular::Colour(colour.x, colour.y, colour.z)
+    Ok(mean_of_sets(quantiser::counted(s, sep, inks), s.n, sets))
 }
 
-// The lowest set with a value that is not admitted, or 256.
-fn first_bad_set(primaries: &[f64]) -> u32
-    requires { length primaries.now ≡ values_due }
-    ensures { result ≡ first_bad_set primaries.now }
+// The lowest set with a value that is not admitted.
+fn first_bad_set(sets: &[f64; VALUES]) -> Option<u32>
+    ensures { result ≡ found_below 256 (first_bad_set sets.now) }
 {
-    let mut set = 1;
-    while set < 256 {
-        if !is_admitted(record_of(primaries, set as usize)) {
-            return set;
-        }
-        set += 1;
-    }
-    256
+    (1..256).find(|set| !is_admitted(record_of(sets, *set as usize)))
 }
 
 // The mean of the sets' records by their weights.
-fn mean_of_sets(counts: [u32; 8], n: u32, primaries: &[f64]) -> Xyz
-    requires { (length primaries.now ≡ values_due) × ((j : ℕ) → j < 8 → get_or counts j 0 ≤ 4096) }
-    ensures { result ≡ cellular_mean (λ j. get_or counts j 0) n primaries.now }
+fn mean_of_sets(counts: [u32; 8], n: u32, sets: &[f64; VALUES]) -> Xyz
+    requires { (j : ℕ) → j < 8 → get_or counts j 0 ≤ 4096 }
+    ensures { result ≡ cellular_mean (λ j. get_or counts j 0) n sets.now }
 {
-    let order = falling(counts);
-    let weights = weights_of(counts, order);
-    let records = records_of(order, primaries);
-    mean(weights, n, records)
+    let falling = Falling::of(counts);
+    mean(falling.weights(), n, falling.records(sets))
 }
 
-// The weights of the eight sets.
-fn weights_of(counts: [u32; 8], order: [usize; 8]) -> [u32; 8]
-    requires { (order ≡ upto (ordered 8 (λ j. get_or counts j 0)) 8) × ((j : ℕ) → j < 8 → get_or counts j 0 ≤ 4096) }
-    ensures { result ≡ upto (weight_at (λ j. get_or counts j 0)) 8 }
-{
-    let mut weights = [0u32; 8];
-    for k in 0..8 {
-        let step = count_at(counts, order, k) - count_at(counts, order, k + 1);
-        weights[k] = (k as u32 + 1) * step;
+impl Falling {
+    // The count at a place of the order; that of the ninth is 0.
+    #[tactic(auto, using(crate::proofs::CellularLaws::count_listed, crate::proofs::CellularLaws::listed_below, crate::proofs::CellularLaws::falling_ninth))]
+    fn count_at(&self, k: usize) -> u32
+        ensures { result ≡ falling_count (λ j. get_or self.now.counts j 0) k }
+    {
+        if k < 8 { self.counts[self.order[k]] } else { 0 }
     }
-    weights
-}
 
-// The count at a place of the order; that of the ninth is 0.
-fn count_at(counts: [u32; 8], order: [usize; 8], k: usize) -> u32
-    requires { order ≡ upto (ordered 8 (λ j. get_or counts j 0)) 8 }
-    ensures { result ≡ falling_count (λ j. get_or counts j 0) k }
-{
-    if k < 8 {
-        return counts[order[k]];
+    // The weight of the set at a place.
+    #[tactic(auto, using(crate::proofs::CellularLaws::weight_next, crate::proofs::CellularLaws::weight_fits, crate::proofs::CellularLaws::falls_next))]
+    fn weight_at(&self, k: usize) -> u32
+        requires { k < 8 }
+        ensures { result ≡ weight_at (λ j. get_or self.now.counts j 0) k }
+    {
+        (k as u32 + 1) * (self.count_at(k) - self.count_at(k + 1))
     }
-    0
-}
 
-// The records of the eight sets: each has one colorant more than the one before.
-fn records_of(order: [usize; 8], primaries: &[f64]) -> [Xyz; 8]
-    requires { (length primaries.now ≡ values_due) × Ordering (λ i. get_or order i 0) }
-    ensures { (k : ℕ) → k < 8 → primary result k ≡ record_of primaries.now (set_along (λ i. get_or order i 0) k) }
-{
-    let mut records = [Xyz {
-        x: 0.0,
-        y: 0.0,
-        z: 0.0,
-    }; 8];
-    let mut set = 0;
-    for k in 0..8 {
-        set += alone(order[k]);
-        records[k] = record_of(primaries, set);
+    // The weights of the eight sets.
+    fn weights(&self) -> [u32; 8]
+        ensures { result ≡ upto (weight_at (λ j. get_or self.now.counts j 0)) 8 }
+    {
+        array::from_fn(|k| self.weight_at(k))
     }
-    records
-}
 
-// The set of one colorant.
-fn alone(colorant: usize) -> usize
-    requires { colorant < 8 }
-    ensures { result ≡ 2 ^ colorant }
-{
-    1 << colorant
+    // The records of the eight sets: each has one colorant more than the one before.
+    fn records(&self, sets: &[f64; VALUES]) -> [Xyz; 8]
+        ensures { (k : ℕ) → k < 8 → primary result k ≡ record_of sets.now (set_at (λ j. get_or self.now.counts j 0) k) }
+    {
+        let mut records = [ZERO; 8];
+        let mut set = 0;
+        for (k, colorant) in self.order.iter().enumerate() {
+            set += 1 << *colorant;
+            records[k] = record_of(sets, set);
+        }
+        records
+    }
 }
 
 // The record of a set.
-fn record_of(primaries: &[f64], set: usize) -> Xyz
-    requires { (length primaries.now ≡ values_due) × (1 ≤ set) × (set ≤ 255) }
-    ensures { result ≡ record_of primaries.now set }
+fn record_of(sets: &[f64; VALUES], set: usize) -> Xyz
+    requires { (1 ≤ set) × (set ≤ 255) }
+    ensures { result ≡ record_of sets.now set }
 {
     let at = 3 * (set - 1);
     Xyz {
-        x: primaries[at],
-        y: primaries[at + 1],
-        z: primaries[at + 2],
+        x: sets[at],
+        y: sets[at + 1],
+        z: sets[at + 2],
     }
 }

@@ -6,10 +6,13 @@ mod cellular;
 mod order;
 
 ghost use Rattle.std.specs.Prelude.{◌≡◌, get_or};
-ghost use Rattle.predict.specs.Predicted.{primary, within, admitted, first_bad, more, totals, mean_of, predicted};
+ghost use Rattle.predict.specs.declared.PredictionError.TheVariants as Error;
+ghost use Rattle.predict.specs.Prediction.{prediction_of};
+ghost use Rattle.predict.specs.Predicted.{primary, within, admitted, first_bad, found_below, more, totals, mean_of, predicted};
 ghost use Rattle.predict.specs.Numbered.{numbered_of, ruled};
 
-pub use cellular::{Cellular, predict_cellular};
+use arith::Refusal;
+pub use cellular::{CellularError, predict_cellular};
 use screen::Screen;
 use separation::{Inks, Separation};
 
@@ -21,44 +24,53 @@ pub struct Xyz {
     pub z: f64,
 }
 
-// The predicted X, Y and Z, the first colorant that has a value beyond its limits, or what refuses the
-// screen.
-#[derive(Clone, Copy)]
-pub enum Prediction {
-    Colour(f64, f64, f64),
-    BadPrimary(u32),
-    BadScreen(u32),
+const ZERO: Xyz = Xyz {
+    x: 0.0,
+    y: 0.0,
+    z: 0.0,
+};
+
+// Why no colour is predicted: what refuses the screen, or the first colorant that has a value beyond its
+// limits.
+#[derive(Clone, Copy, Debug, PartialEq, Eq, Hash)]
+pub enum PredictionError {
+    Screen(Refusal),
+    Primary(u32),
+}
+
+impl From<Refusal> for PredictionError {
+    ghost from_gives = { λ refusal error. error ≡ Error.Screen refusal };
+
+    fn from(refusal: Refusal) -> PredictionError {
+        PredictionError::Screen(refusal)
+    }
 }
 
 // The colour that a screen's cells give together for one ink triple, each colorant being as its primary.
-pub fn predict(s: Screen, sep: Separation, inks: Inks, primaries: [Xyz; 8]) -> Prediction
-    ensures answer { result ≡ predicted s sep inks primaries }
-    ensures numbered { numbered_of result ≡ ruled s sep inks primaries }
+pub fn predict(
+    s: Screen,
+    sep: Separation,
+    inks: Inks,
+    primaries: [Xyz; 8],
+) -> Result<Xyz, PredictionError>
+    ensures answer { prediction_of result ≡ predicted s sep inks primaries }
+    ensures numbered { numbered_of (prediction_of result) ≡ ruled s sep inks primaries }
 {
-    let refused = screen::refusal(s);
-    if refused != 0 {
-        return Prediction::BadScreen(refused);
+    screen::check(s)?;
+    if let Some(colorant) = first_bad(primaries) {
+        return Err(PredictionError::Primary(colorant));
     }
-    let bad = first_bad(primaries);
-    if bad < 8 {
-        return Prediction::BadPrimary(bad);
-    }
-    let colour = mean(quantiser::counted(s, sep, inks), s.n, primaries);
-    Prediction::Colour(colour.x, colour.y, colour.z)
+    Ok(mean(quantiser::counted(s, sep, inks), s.n, primaries))
 }
 
-// The first colorant with a value that is not admitted, or 8.
-fn first_bad(primaries: [Xyz; 8]) -> u32
-    ensures { result ≡ first_bad primaries }
+// The first colorant with a value that is not admitted.
+fn first_bad(primaries: [Xyz; 8]) -> Option<u32>
+    ensures { result ≡ found_below 8 (first_bad primaries) }
 {
-    let mut first = 0;
-    while first < 8 {
-        if !is_admitted(primaries[first as usize]) {
-            return first;
-        }
-        first += 1;
-    }
-    8
+    primaries
+        .iter()
+        .position(|p| !is_admitted(*p))
+        .map(|colorant| colorant as u32)
 }
 
 // Whether all three values of a primary are admitted.
@@ -73,7 +85,7 @@ fn is_admitted(p: Xyz) -> bool
 fn in_range(v: f64) -> bool
     ensures { result ≡ within v }
 {
-    if v >= 0.0 { v <= 200.0 } else { false }
+    (0.0..=200.0).contains(&v)
 }
 
 // The sum of eight records, each so many times, divided by the number of cells.
@@ -81,7 +93,7 @@ fn mean(times: [u32; 8], n: u32, records: [Xyz; 8]) -> Xyz
     ensures { result ≡ mean_of (λ j. get_or times j 0) n (primary records) }
 {
     let sum = total(times, records);
-    let cells = n as f64;
+    let cells = f64::from(n);
     Xyz {
         x: sum.x / cells,
         y: sum.y / cells,
@@ -93,22 +105,17 @@ fn mean(times: [u32; 8], n: u32, records: [Xyz; 8]) -> Xyz
 fn total(times: [u32; 8], records: [Xyz; 8]) -> Xyz
     ensures { result ≡ totals 8 (λ j. get_or times j 0) (primary records) }
 {
-    let mut sum = Xyz {
-        x: 0.0,
-        y: 0.0,
-        z: 0.0,
-    };
-    for j in 0..8 {
-        sum = added(sum, times[j], records[j]);
-    }
-    sum
+    times
+        .iter()
+        .zip(&records)
+        .fold(ZERO, |sum, (count, record)| added(sum, *count, *record))
 }
 
 // A sum with a record added so many times.
 fn added(sum: Xyz, count: u32, p: Xyz) -> Xyz
     ensures { result ≡ record { x = more sum.x count p.x; y = more sum.y count p.y; z = more sum.z count p.z } }
 {
-    let times = count as f64;
+    let times = f64::from(count);
     Xyz {
         x: sum.x + times * p.x,
         y: sum.y + times * p.y,

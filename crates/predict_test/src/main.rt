@@ -4,272 +4,278 @@
 // order, equal counts, and runs of the right length and of others. The file stdout holds what this must print.
 #![tactic(auto)]
 
-ghost use Rattle.std.specs.Prelude.{◌<◌};
-
-use predict::{Cellular, Prediction, Xyz};
+use predict::{CellularError, PredictionError, Xyz};
 use screen::Screen;
 use separation::{Inks, Separation};
+use std::fmt;
+use std::io;
 
-// What the values of the sets' records are: whole numbers, drawn hundredths, or a few times the smallest
-// number above 0.
-#[derive(Clone, Copy)]
-enum Kind {
-    Whole,
-    Uneven,
-    Small,
+// The values of a run: 765, which are the records of all sets, and others beyond them.
+const LENGTH: usize = 2048;
+
+// Runs of whole numbers, of drawn hundredths, of a few times the smallest number above 0, and of the
+// hundredths with a bad value in the first place.
+#[derive(Drop)]
+struct Runs {
+    whole: [f64; LENGTH],
+    uneven: [f64; LENGTH],
+    small: [f64; LENGTH],
+    bad: [f64; LENGTH],
 }
 
-fn main() {
-    let wholes = records(Kind::Whole);
-    let unevens = records(Kind::Uneven);
-    let smalls = records(Kind::Small);
-    let bad = with_value(unevens, 0, -1.0);
-    io::write_all(
-        1,
-        b"# primaries or records, a b n k g, separation, c m y: answer\n",
-    );
-    good_values(&wholes, &unevens, &smalls);
-    values(unevens);
-    places();
-    set_places(unevens);
-    refusals(&unevens, &bad);
-    mixed(&unevens);
-    stored(&unevens, &bad);
-}
-
-fn good_values(wholes: &[f64], unevens: &[f64], smalls: &[f64]) {
-    full_tones(wholes, unevens);
-    uneven_sums(wholes, unevens, smalls);
-    orders(unevens);
-    ties(unevens);
+fn main(rt: HostRuntime) -> io::Result<()> {
+    let uneven = run_of(|place, draw| if place < 1700 { hundredths(draw, 20001) } else { hundredths(draw, 20100) });
+    let runs = Runs {
+        whole: run_of(|place, _| whole_value(place / 3 % 255 + 1, place % 3)),
+        uneven,
+        small: run_of(|place, _| f64::from(place % 7) * 5e-324),
+        bad: with_value(&uneven, 0, -1.0),
+    };
+    println!(rt; "# primaries or records, a b n k g, separation, c m y: answer")?;
+    full_tones(&rt, &runs)?;
+    uneven_sums(&rt, &runs)?;
+    orders(&rt, &runs)?;
+    ties(&rt, &runs)?;
+    limits(&rt, &runs)?;
+    places(&rt)?;
+    set_places(&rt, &runs)?;
+    refusals(&rt, &runs)?;
+    mixed(&rt, &runs)?;
+    stored(&rt, &runs)
 }
 
 // One colorant alone, of 105, 1 and 4096 cells.
-fn full_tones(wholes: &[f64], unevens: &[f64]) {
-    each_alone(listed(), wholes, unevens);
-    each_alone(screen_of(1, 2, 1, 1, 0), wholes, unevens);
-    each_alone(screen_of(63, 64, 4096, 16, 4095), wholes, unevens);
-}
-
-fn each_alone(s: Screen, wholes: &[f64], unevens: &[f64]) {
-    show_whole(s, inks_of(255, 0, 0), wholes);
-    show_whole(s, inks_of(0, 255, 0), wholes);
-    show_whole(s, inks_of(0, 0, 255), wholes);
-    show_whole(s, inks_of(255, 255, 0), wholes);
-    show_whole(s, inks_of(255, 0, 255), wholes);
-    show_whole(s, inks_of(0, 255, 255), wholes);
-    show_whole(s, inks_of(255, 255, 255), wholes);
-    show_whole(s, inks_of(0, 0, 0), wholes);
-    show_uneven(s, inks_of(255, 0, 0), unevens);
-    show_uneven(s, inks_of(0, 0, 0), unevens);
+fn full_tones(rt: &impl Print, runs: &Runs) -> io::Result<()> {
+    for s in [
+        listed(),
+        screen_of(1, 2, 1, 1, 0),
+        screen_of(63, 64, 4096, 16, 4095),
+    ] {
+        for inks in [
+            inks_of(255, 0, 0),
+            inks_of(0, 255, 0),
+            inks_of(0, 0, 255),
+            inks_of(255, 255, 0),
+            inks_of(255, 0, 255),
+            inks_of(0, 255, 255),
+            inks_of(255, 255, 255),
+            inks_of(0, 0, 0),
+        ] {
+            show_whole(rt, s, inks, runs)?;
+        }
+        show_uneven(rt, s, inks_of(255, 0, 0), runs)?;
+        show_uneven(rt, s, inks_of(0, 0, 0), runs)?;
+    }
+    Ok(())
 }
 
 // Sums that are rounded, of whole numbers and of others.
-fn uneven_sums(wholes: &[f64], unevens: &[f64], smalls: &[f64]) {
-    rounded(listed(), wholes, unevens, smalls);
-    rounded(screen_of(1, 2, 1, 1, 0), wholes, unevens, smalls);
-    rounded(screen_of(4, 7, 3, 2, 0), wholes, unevens, smalls);
-    rounded(screen_of(4, 7, 97, 1, 96), wholes, unevens, smalls);
-    rounded(screen_of(63, 64, 4095, 7, 0), wholes, unevens, smalls);
-    rounded(screen_of(63, 64, 4096, 16, 4095), wholes, unevens, smalls);
-}
-
-fn rounded(s: Screen, wholes: &[f64], unevens: &[f64], smalls: &[f64]) {
-    show_uneven(s, inks_of(128, 128, 0), unevens);
-    show_uneven(s, inks_of(51, 102, 204), unevens);
-    show_uneven(s, inks_of(200, 90, 140), unevens);
-    show_whole(s, inks_of(13, 77, 250), wholes);
-    sets_of_both(b"small", s, inks_of(200, 90, 140), smalls);
+fn uneven_sums(rt: &impl Print, runs: &Runs) -> io::Result<()> {
+    for s in [
+        listed(),
+        screen_of(1, 2, 1, 1, 0),
+        screen_of(4, 7, 3, 2, 0),
+        screen_of(4, 7, 97, 1, 96),
+        screen_of(63, 64, 4095, 7, 0),
+        screen_of(63, 64, 4096, 16, 4095),
+    ] {
+        show_uneven(rt, s, inks_of(128, 128, 0), runs)?;
+        show_uneven(rt, s, inks_of(51, 102, 204), runs)?;
+        show_uneven(rt, s, inks_of(200, 90, 140), runs)?;
+        show_whole(rt, s, inks_of(13, 77, 250), runs)?;
+        show_sets_of_both(rt, "small", s, inks_of(200, 90, 140), &runs.small)?;
+    }
+    Ok(())
 }
 
 // Counts by the three inks in every order.
-fn orders(unevens: &[f64]) {
-    sets_of_both(b"uneven", listed(), inks_of(40, 99, 211), unevens);
-    sets_of_both(b"uneven", listed(), inks_of(40, 211, 99), unevens);
-    sets_of_both(b"uneven", listed(), inks_of(99, 40, 211), unevens);
-    sets_of_both(b"uneven", listed(), inks_of(99, 211, 40), unevens);
-    sets_of_both(b"uneven", listed(), inks_of(211, 40, 99), unevens);
-    sets_of_both(b"uneven", listed(), inks_of(211, 99, 40), unevens);
+fn orders(rt: &impl Print, runs: &Runs) -> io::Result<()> {
+    for inks in [
+        inks_of(40, 99, 211),
+        inks_of(40, 211, 99),
+        inks_of(99, 40, 211),
+        inks_of(99, 211, 40),
+        inks_of(211, 40, 99),
+        inks_of(211, 99, 40),
+    ] {
+        show_sets_of_both(rt, "uneven", listed(), inks, &runs.uneven)?;
+    }
+    Ok(())
 }
 
 // Two to eight equal counts.
-fn ties(unevens: &[f64]) {
-    equal_counts(screen_of(4, 7, 8, 1, 0), unevens);
-    equal_counts(screen_of(4, 7, 24, 4, 3), unevens);
-}
-
-fn equal_counts(s: Screen, unevens: &[f64]) {
-    sets_of_both(b"uneven", s, inks_of(128, 128, 128), unevens);
-    sets_of_both(b"uneven", s, inks_of(64, 128, 191), unevens);
-    sets_of_both(b"uneven", s, inks_of(85, 170, 85), unevens);
+fn ties(rt: &impl Print, runs: &Runs) -> io::Result<()> {
+    for s in [screen_of(4, 7, 8, 1, 0), screen_of(4, 7, 24, 4, 3)] {
+        for inks in [
+            inks_of(128, 128, 128),
+            inks_of(64, 128, 191),
+            inks_of(85, 170, 85),
+        ] {
+            show_sets_of_both(rt, "uneven", s, inks, &runs.uneven)?;
+        }
+    }
+    Ok(())
 }
 
 // Values beside the limits and far from them, at the first and at the last colorant, in a set with weight and
 // in one without.
-fn values(unevens: [f64; 2048]) {
-    beside(b"200", 200.0, unevens);
-    beside(b"199.99999999999997", 199.99999999999997, unevens);
-    beside(b"200.00000000000003", 200.00000000000003, unevens);
-    beside(b"0", 0.0, unevens);
-    beside(b"-0", -0.0, unevens);
-    beside(b"5e-324", 5e-324, unevens);
-    beside(b"-5e-324", -5e-324, unevens);
-    beside(b"-1e-300", -1e-300, unevens);
-    beside(b"-1", -1.0, unevens);
-    beside(b"200.5", 200.5, unevens);
-    beside(b"1e300", 1e300, unevens);
-    beside(b"inf", 1.0 / 0.0, unevens);
-    beside(b"-inf", -1.0 / 0.0, unevens);
-    beside(b"nan", 0.0 / 0.0, unevens);
-}
-
-fn beside(name: &[u8], v: f64, unevens: [f64; 2048]) {
-    let s = listed();
-    let inks = inks_of(200, 90, 140);
-    io::write_all(1, b"0 x = ");
-    show(name, s, Separation::Demichel, inks, with_first(v));
-    io::write_all(1, b"7 z = ");
-    show(name, s, Separation::Demichel, inks, with_last(v));
-    io::write_all(1, b"set 89 x = ");
-    show_listed(name, with_value(unevens, 264, v));
-    io::write_all(1, b"set 223 z = ");
-    show_listed(name, with_value(unevens, 668, v));
+fn limits(rt: &impl Print, runs: &Runs) -> io::Result<()> {
+    for (name, v) in [
+        ("200", 200.0),
+        ("199.99999999999997", 199.99999999999997),
+        ("200.00000000000003", 200.00000000000003),
+        ("0", 0.0),
+        ("-0", -0.0),
+        ("5e-324", 5e-324),
+        ("-5e-324", -5e-324),
+        ("-1e-300", -1e-300),
+        ("-1", -1.0),
+        ("200.5", 200.5),
+        ("1e300", 1e300),
+        ("inf", 1.0 / 0.0),
+        ("-inf", -1.0 / 0.0),
+        ("nan", 0.0 / 0.0),
+    ] {
+        let call = Call {
+            name,
+            s: listed(),
+            sep: Separation::Demichel,
+            inks: inks_of(200, 90, 140),
+        };
+        print!(rt; "0 x = ")?;
+        call.show(rt, with_first(v))?;
+        print!(rt; "7 z = ")?;
+        call.show(rt, with_last(v))?;
+        print!(rt; "set 89 x = ")?;
+        call.show_sets(rt, &with_value(&runs.uneven, 264, v), 0, 765)?;
+        print!(rt; "set 223 z = ")?;
+        call.show_sets(rt, &with_value(&runs.uneven, 668, v), 0, 765)?;
+    }
+    Ok(())
 }
 
 // A bad Y at each colorant, that of the last being bad too.
-fn places() {
+fn places(rt: &impl Print) -> io::Result<()> {
+    let call = Call {
+        name: "nan",
+        s: listed(),
+        sep: Separation::Kueppers,
+        inks: inks_of(0, 0, 0),
+    };
     for j in 0..8 {
-        place(j);
+        let mut ps = with_last(-1.0);
+        ps[j] = Xyz {
+            x: 1.0,
+            y: 0.0 / 0.0,
+            z: 1.0,
+        };
+        print!(rt; "{j} y = ")?;
+        call.show(rt, ps)?;
     }
-}
-
-fn place(j: usize) {
-    let bad = xyz_of(1.0, 0.0 / 0.0, 1.0);
-    let mut ps = with_last(-1.0);
-    if j < 8 {
-        ps[j] = bad;
-    }
-    io::print_decimal(1, j as u64);
-    io::write_all(1, b" y = ");
-    show(b"nan", listed(), Separation::Kueppers, inks_of(0, 0, 0), ps);
+    Ok(())
 }
 
 // A bad value in the first, the last and other sets, the last place of all being bad too.
-fn set_places(unevens: [f64; 2048]) {
-    let run = with_value(unevens, 764, -1.0);
-    set_place(0, run);
-    set_place(1, run);
-    set_place(2, run);
-    set_place(3, run);
-    set_place(5, run);
-    set_place(6, run);
-    set_place(264, run);
-    set_place(266, run);
-    set_place(380, run);
-    set_place(381, run);
-    set_place(383, run);
-    set_place(384, run);
-    set_place(668, run);
-    set_place(761, run);
-    set_place(762, run);
-    set_place(764, run);
+fn set_places(rt: &impl Print, runs: &Runs) -> io::Result<()> {
+    let run = with_value(&runs.uneven, 764, -1.0);
+    let call = Call {
+        name: "nan",
+        s: listed(),
+        sep: Separation::Demichel,
+        inks: inks_of(200, 90, 140),
+    };
+    for place in [
+        0, 1, 2, 3, 5, 6, 264, 266, 380, 381, 383, 384, 668, 761, 762, 764,
+    ] {
+        print!(rt; "place {place} = ")?;
+        call.show_sets(rt, &with_value(&run, place, 0.0 / 0.0), 0, 765)?;
+    }
+    Ok(())
 }
 
-fn set_place(place: usize, run: [f64; 2048]) {
-    io::write_all(1, b"place ");
-    io::print_decimal(1, place as u64);
-    io::write_all(1, b" = ");
-    show_listed(b"nan", with_value(run, place, 0.0 / 0.0));
-}
-
-fn refusals(unevens: &[f64], bad: &[f64]) {
-    lengths(b"uneven", unevens);
-    lengths(b"set 1 x = -1", bad);
-    bad_screens(unevens, bad);
-}
-
-// Lengths beside the right one, and others.
-fn lengths(name: &[u8], run: &[f64]) {
-    show_length(name, listed(), run, 0);
-    show_length(name, listed(), run, 1);
-    show_length(name, listed(), run, 24);
-    show_length(name, listed(), run, 762);
-    show_length(name, listed(), run, 764);
-    show_length(name, listed(), run, 765);
-    show_length(name, listed(), run, 766);
-    show_length(name, listed(), run, 768);
-}
-
-fn show_length(name: &[u8], s: Screen, run: &[f64], length: usize) {
-    io::write_all(1, b"length ");
-    io::print_decimal(1, length as u64);
-    io::write_all(1, b", ");
-    show_sets(
-        name,
-        s,
-        Separation::Kueppers,
-        inks_of(51, 102, 204),
-        run,
-        0,
-        length,
-    );
+// Lengths beside the right one, and others; and bad screens.
+fn refusals(rt: &impl Print, runs: &Runs) -> io::Result<()> {
+    for (name, run) in [("uneven", &runs.uneven), ("set 1 x = -1", &runs.bad)] {
+        for length in [0, 1, 24, 762, 764, 765, 766, 768] {
+            show_length(rt, name, listed(), run, length)?;
+        }
+    }
+    bad_screens(rt, runs)
 }
 
 // Refusals 1 to 4, at their limits, with good primaries and with a bad one, and with runs of right and of
 // wrong length.
-fn bad_screens(unevens: &[f64], bad: &[f64]) {
-    refused(screen_of(4, 8, 105, 2, 0), unevens, bad);
-    refused(screen_of(0, 7, 105, 2, 0), unevens, bad);
-    refused(screen_of(63, 65, 105, 2, 0), unevens, bad);
-    refused(screen_of(4, 7, 0, 1, 0), unevens, bad);
-    refused(screen_of(4, 7, 4097, 2, 0), unevens, bad);
-    refused(screen_of(4, 7, 4294967295, 2, 0), unevens, bad);
-    refused(screen_of(4, 7, 105, 0, 0), unevens, bad);
-    refused(screen_of(4, 7, 105, 17, 0), unevens, bad);
-    refused(screen_of(4, 7, 5, 6, 0), unevens, bad);
-    refused(screen_of(4, 7, 70, 2, 70), unevens, bad);
-    refused(screen_of(4, 8, 0, 0, 0), unevens, bad);
-    refused(screen_of(4, 7, 5, 6, 5), unevens, bad);
+fn bad_screens(rt: &impl Print, runs: &Runs) -> io::Result<()> {
+    for s in [
+        screen_of(4, 8, 105, 2, 0),
+        screen_of(0, 7, 105, 2, 0),
+        screen_of(63, 65, 105, 2, 0),
+        screen_of(4, 7, 0, 1, 0),
+        screen_of(4, 7, 4097, 2, 0),
+        screen_of(4, 7, 4294967295, 2, 0),
+        screen_of(4, 7, 105, 0, 0),
+        screen_of(4, 7, 105, 17, 0),
+        screen_of(4, 7, 5, 6, 0),
+        screen_of(4, 7, 70, 2, 70),
+        screen_of(4, 8, 0, 0, 0),
+        screen_of(4, 7, 5, 6, 5),
+    ] {
+        refused(rt, s, runs)?;
+    }
+    Ok(())
 }
 
-fn refused(s: Screen, unevens: &[f64], bad: &[f64]) {
-    show_both(b"whole", s, inks_of(255, 0, 0), whole());
-    io::write_all(1, b"0 x = ");
-    show(
-        b"nan",
+fn refused(rt: &impl Print, s: Screen, runs: &Runs) -> io::Result<()> {
+    let inks = inks_of(255, 0, 0);
+    show_both(rt, "whole", s, inks, whole())?;
+    print!(rt; "0 x = ")?;
+    let call = Call {
+        name: "nan",
         s,
-        Separation::Kueppers,
-        inks_of(255, 0, 0),
-        with_first(0.0 / 0.0),
-    );
-    sets_of_both(b"uneven", s, inks_of(255, 0, 0), unevens);
-    show_length(b"uneven", s, unevens, 764);
-    show_length(b"set 1 x = -1", s, bad, 765);
-    show_length(b"set 1 x = -1", s, bad, 766);
+        sep: Separation::Kueppers,
+        inks,
+    };
+    call.show(rt, with_first(0.0 / 0.0))?;
+    show_sets_of_both(rt, "uneven", s, inks, &runs.uneven)?;
+    show_length(rt, "uneven", s, &runs.uneven, 764)?;
+    show_length(rt, "set 1 x = -1", s, &runs.bad, 765)?;
+    show_length(rt, "set 1 x = -1", s, &runs.bad, 766)
 }
 
 // Refusal 15 of each stored number, in the same calls; and 3 before it.
-fn stored(unevens: &[f64], bad: &[f64]) {
-    refused_storing(record_of(4, 7, 105, 2, 0, 106, 1, 77), unevens, bad);
-    refused_storing(record_of(4, 7, 105, 2, 0, 105, 2, 77), unevens, bad);
-    refused_storing(record_of(4, 7, 105, 2, 0, 105, 1, 182), unevens, bad);
-    refused_storing(record_of(4, 7, 105, 17, 0, 105, 1, 182), unevens, bad);
-}
-
-fn refused_storing(s: Screen, unevens: &[f64], bad: &[f64]) {
-    show_stored(s);
-    refused(s, unevens, bad);
+fn stored(rt: &impl Print, runs: &Runs) -> io::Result<()> {
+    for (k, columns, rows, shift) in [
+        (2, 106, 1, 77),
+        (2, 105, 2, 77),
+        (2, 105, 1, 182),
+        (17, 105, 1, 182),
+    ] {
+        println!(rt; "# stored {columns} {rows} {shift}")?;
+        let s = Screen {
+            a: 4,
+            b: 7,
+            n: 105,
+            k,
+            g: 0,
+            columns,
+            rows,
+            shift,
+        };
+        refused(rt, s, runs)?;
+    }
+    Ok(())
 }
 
 // Screens, ink values and primaries that are drawn one from the other, from each start, and from every
 // second one records that begin at a drawn place.
-fn mixed(unevens: &[f64]) {
+fn mixed(rt: &impl Print, runs: &Runs) -> io::Result<()> {
     for start in 0..80 {
-        mixed_case(start, unevens);
+        mixed_case(rt, start, runs)?;
     }
+    Ok(())
 }
 
-fn mixed_case(start: u32, unevens: &[f64]) {
+fn mixed_case(rt: &impl Print, start: u32, runs: &Runs) -> io::Result<()> {
     let a = next(start);
     let b = next(a);
     let n = next(b);
@@ -278,94 +284,78 @@ fn mixed_case(start: u32, unevens: &[f64]) {
     let c = next(g);
     let m = next(c);
     let y = next(m);
-    let s = mixed_screen(
-        upper(a) % 12,
-        upper(b) % 2,
-        upper(n) % 4200,
-        upper(k) % 18,
-        upper(g) % 100,
-    );
-    let inks = mixed_inks(upper(c), upper(m), upper(y));
-    show_both(b"drawn", s, inks, drawn(y));
+    let low = upper(a) % 12;
+    let high = low + upper(b) % 2 + 1;
+    let s = screen_of(low, high, upper(n) % 4200, upper(k) % 18, upper(g) % 100);
+    let inks = inks_of(lowest(upper(c)), lowest(upper(m)), lowest(upper(y)));
+    show_both(rt, "drawn", s, inks, drawn(y))?;
     if start % 2 == 0 {
-        parts_of_both(b"drawn", s, inks, unevens, (upper(y) % 1283) as usize);
+        let from = (upper(y) % 1283) as usize;
+        show_parts_of_both(rt, "drawn", s, inks, &runs.uneven, from)?;
     }
-}
-
-fn mixed_screen(a: u32, gap: u32, n: u32, k: u32, g: u32) -> Screen
-    requires { (a < 12) × (gap < 2) }
-{
-    screen_of(a, a + gap + 1, n, k, g)
-}
-
-fn mixed_inks(c: u32, m: u32, y: u32) -> Inks {
-    inks_of((c % 256) as u8, (m % 256) as u8, (y % 256) as u8)
+    Ok(())
 }
 
 // Primaries that are drawn after the number given.
 fn drawn(start: u32) -> [Xyz; 8] {
-    let mut ps = [xyz_of(0.0, 0.0, 0.0); 8];
+    let mut ps = uneven();
     let mut last = start;
-    for j in 0..8 {
+    for p in &mut ps {
         let x = next(last);
         let y = next(x);
         let z = next(y);
-        ps[j] = xyz_of(value(upper(x)), value(upper(y)), value(upper(z)));
+        *p = Xyz {
+            x: hundredths(upper(x), 20100),
+            y: hundredths(upper(y), 20100),
+            z: hundredths(upper(z), 20100),
+        };
         last = z;
     }
     ps
 }
 
-// A hundredth of a number from 0 to 20099: those above 20000 are bad.
-fn value(n: u32) -> f64 {
-    (n % 20100) as f64 / 100.0
+// So many hundredths, below a limit: those above 20000 are bad.
+fn hundredths(draw: u32, below: u32) -> f64
+    requires { 0 < below }
+{
+    f64::from(draw % below) / 100.0
 }
 
-// The records of all sets, which are 765 values, and values beyond them.
-fn records(kind: Kind) -> [f64; 2048] {
-    let mut run = [0.0; 2048];
+// A run whose values are given by their places and by numbers that are drawn one from the other.
+fn run_of<F: Fn(u32, u32) -> f64>(value: F) -> [f64; LENGTH]
+    requires { F.IsAlwaysCallable value }
+{
+    let mut run = [0.0; LENGTH];
     let mut last = 0;
-    for place in 0..2048 {
+    for (v, place) in run.iter_mut().zip(0..2048) {
         last = next(last);
-        run[place] = record_value(kind, place as u32, upper(last));
+        *v = value(place, upper(last));
     }
     run
 }
 
-// The value at a place, for which a number was drawn. Of the hundredths some from place 1700 on are bad.
-fn record_value(kind: Kind, place: u32, draw: u32) -> f64 {
-    match kind {
-        Kind::Whole => whole_value(place / 3 % 255 + 1, place % 3),
-        Kind::Uneven => {
-            if place < 1700 {
-                (draw % 20001) as f64 / 100.0
-            } else {
-                value(draw)
-            }
-        }
-        Kind::Small => (place % 7) as f64 * 5e-324,
-    }
-}
-
 // X and Y of a set are whole numbers from 0 to 200; Z is 0, of single colorants plus and minus in turn.
 fn whole_value(set: u32, channel: u32) -> f64 {
-    if channel == 0 {
-        return ((set % 256 + 137) % 201) as f64;
+    match channel {
+        0 => f64::from((set % 256 + 137) % 201),
+        1 => f64::from(set % 256 * 25 % 201),
+        _ if set % 3 == 1 => 0.0,
+        _ => -0.0,
     }
-    if channel == 1 {
-        return (set % 256 * 25 % 201) as f64;
-    }
-    if set % 3 == 1 { 0.0 } else { -0.0 }
 }
 
 // The number drawn after another.
 fn next(n: u32) -> u32 {
-    ((n as u64 * 1664525 + 1013904223) % 4294967296) as u32
+    n.wrapping_mul(1664525).wrapping_add(1013904223)
 }
 
-// The upper half of a drawn number, the lower one being too regular.
+// The upper half of a drawn number, the lower one being too regular; and the lowest byte of a number.
 fn upper(n: u32) -> u32 {
-    n / 65536
+    n >> 16
+}
+
+fn lowest(n: u32) -> u8 {
+    (n & 0xff) as u8
 }
 
 fn listed() -> Screen {
@@ -375,254 +365,228 @@ fn listed() -> Screen {
 // Whole numbers; Z is 0, plus and minus in turn.
 fn whole() -> [Xyz; 8] {
     [
-        xyz_of(0.0, 200.0, 0.0),
-        xyz_of(1.0, 199.0, -0.0),
-        xyz_of(2.0, 100.0, 0.0),
-        xyz_of(3.0, 64.0, -0.0),
-        xyz_of(127.0, 63.0, 0.0),
-        xyz_of(128.0, 3.0, -0.0),
-        xyz_of(199.0, 2.0, 0.0),
-        xyz_of(200.0, 1.0, -0.0),
+        [0.0, 200.0, 0.0],
+        [1.0, 199.0, -0.0],
+        [2.0, 100.0, 0.0],
+        [3.0, 64.0, -0.0],
+        [127.0, 63.0, 0.0],
+        [128.0, 3.0, -0.0],
+        [199.0, 2.0, 0.0],
+        [200.0, 1.0, -0.0],
     ]
+    .map(|[x, y, z]| Xyz { x, y, z })
 }
 
 fn uneven() -> [Xyz; 8] {
     [
-        xyz_of(0.1, 12.3, 199.9),
-        xyz_of(0.7, 33.3, 0.01),
-        xyz_of(1.1, 0.2, 99.99),
-        xyz_of(33.3, 150.7, 5e-324),
-        xyz_of(77.7, 0.3, 1e-300),
-        xyz_of(123.456, 66.6, 0.333),
-        xyz_of(2.2, 1e-17, 111.1),
-        xyz_of(95.047, 100.1, 108.883),
+        [0.1, 12.3, 199.9],
+        [0.7, 33.3, 0.01],
+        [1.1, 0.2, 99.99],
+        [33.3, 150.7, 5e-324],
+        [77.7, 0.3, 1e-300],
+        [123.456, 66.6, 0.333],
+        [2.2, 1e-17, 111.1],
+        [95.047, 100.1, 108.883],
     ]
+    .map(|[x, y, z]| Xyz { x, y, z })
 }
 
 fn with_first(v: f64) -> [Xyz; 8] {
     let mut ps = uneven();
-    ps[0] = xyz_of(v, 12.3, 199.9);
+    ps[0].x = v;
     ps
 }
 
 fn with_last(v: f64) -> [Xyz; 8] {
     let mut ps = uneven();
-    ps[7] = xyz_of(95.047, 100.1, v);
+    ps[7].z = v;
     ps
 }
 
-// Records with another value at a place.
-fn with_value(records: [f64; 2048], place: usize, v: f64) -> [f64; 2048] {
-    let mut run = records;
-    if place < 2048 {
-        run[place] = v;
+// A run with another value at a place.
+fn with_value(run: &[f64; LENGTH], place: usize, v: f64) -> [f64; LENGTH] {
+    let mut run = *run;
+    if let Some(there) = run.get_mut(place) {
+        *there = v;
     }
     run
 }
 
-fn xyz_of(x: f64, y: f64, z: f64) -> Xyz {
-    Xyz { x: x, y: y, z: z }
-}
-
 // A screen that stores the numbers of its brick or, where 1 to 4 refuse it, zeros.
 fn screen_of(a: u32, b: u32, n: u32, k: u32, g: u32) -> Screen {
-    let made = screen::make(a, b, n, k, g);
-    if made.refusal != 0 {
-        return record_of(a, b, n, k, g, 0, 0, 0);
-    }
-    made.screen
-}
-
-fn record_of(
-    a: u32,
-    b: u32,
-    n: u32,
-    k: u32,
-    g: u32,
-    columns: u32,
-    rows: u32,
-    shift: u32,
-) -> Screen {
-    Screen {
-        a: a,
-        b: b,
-        n: n,
-        k: k,
-        g: g,
-        columns: columns,
-        rows: rows,
-        shift: shift,
-    }
+    screen::make(a, b, n, k, g).unwrap_or(Screen {
+        a,
+        b,
+        n,
+        k,
+        g,
+        columns: 0,
+        rows: 0,
+        shift: 0,
+    })
 }
 
 fn inks_of(c: u8, m: u8, y: u8) -> Inks {
-    Inks { c: c, m: m, y: y }
+    Inks { c, m, y }
 }
 
-fn show_whole(s: Screen, inks: Inks, wholes: &[f64]) {
-    show_both(b"whole", s, inks, whole());
-    sets_of_both(b"whole", s, inks, wholes);
+fn show_whole(rt: &impl Print, s: Screen, inks: Inks, runs: &Runs) -> io::Result<()> {
+    show_both(rt, "whole", s, inks, whole())?;
+    show_sets_of_both(rt, "whole", s, inks, &runs.whole)
 }
 
-fn show_uneven(s: Screen, inks: Inks, unevens: &[f64]) {
-    show_both(b"uneven", s, inks, uneven());
-    sets_of_both(b"uneven", s, inks, unevens);
+fn show_uneven(rt: &impl Print, s: Screen, inks: Inks, runs: &Runs) -> io::Result<()> {
+    show_both(rt, "uneven", s, inks, uneven())?;
+    show_sets_of_both(rt, "uneven", s, inks, &runs.uneven)
 }
 
-// Shows the answer for counts by which the set 89 has weight and the set 223 has none.
-fn show_listed(name: &[u8], run: [f64; 2048]) {
-    show_sets(
-        name,
-        listed(),
-        Separation::Demichel,
-        inks_of(200, 90, 140),
-        &run,
-        0,
-        765,
-    );
-}
-
-fn show_both(name: &[u8], s: Screen, inks: Inks, ps: [Xyz; 8]) {
-    show(name, s, Separation::Demichel, inks, ps);
-    show(name, s, Separation::Kueppers, inks, ps);
-}
-
-fn sets_of_both(name: &[u8], s: Screen, inks: Inks, run: &[f64]) {
-    parts_of_both(name, s, inks, run, 0);
-}
-
-fn parts_of_both(name: &[u8], s: Screen, inks: Inks, run: &[f64], from: usize) {
-    show_sets(name, s, Separation::Demichel, inks, run, from, 765);
-    show_sets(name, s, Separation::Kueppers, inks, run, from, 765);
-}
-
-fn show(name: &[u8], s: Screen, sep: Separation, inks: Inks, ps: [Xyz; 8]) {
-    show_call(name, s, sep, inks);
-    show_answer(predict::predict(s, sep, inks, ps));
-    io::write_all(1, b"\n");
-}
-
-// Lends so many places of a run, from one on, where it has them.
-fn show_sets(
-    name: &[u8],
+// By both separations: primaries, and the sets of a run from its first place or from another on.
+fn show_both(
+    rt: &impl Print,
+    name: &str,
     s: Screen,
-    sep: Separation,
+    inks: Inks,
+    ps: [Xyz; 8],
+) -> io::Result<()> {
+    for sep in [Separation::Demichel, Separation::Kueppers] {
+        Call { name, s, sep, inks }.show(rt, ps)?;
+    }
+    Ok(())
+}
+
+fn show_sets_of_both(
+    rt: &impl Print,
+    name: &str,
+    s: Screen,
+    inks: Inks,
+    run: &[f64],
+) -> io::Result<()> {
+    show_parts_of_both(rt, name, s, inks, run, 0)
+}
+
+fn show_parts_of_both(
+    rt: &impl Print,
+    name: &str,
+    s: Screen,
     inks: Inks,
     run: &[f64],
     from: usize,
+) -> io::Result<()> {
+    for sep in [Separation::Demichel, Separation::Kueppers] {
+        Call { name, s, sep, inks }.show_sets(rt, run, from, 765)?;
+    }
+    Ok(())
+}
+
+// So many values of a run.
+fn show_length(
+    rt: &impl Print,
+    name: &str,
+    s: Screen,
+    run: &[f64],
     length: usize,
-) {
-    if run.len() < from {
-        return;
-    }
-    if run.len() - from < length {
-        return;
-    }
-    let to = from + length;
-    show_call(name, s, sep, inks);
-    show_set_answer(predict::predict_cellular(s, sep, inks, &run[from..to]));
-    io::write_all(1, b"\n");
+) -> io::Result<()> {
+    print!(rt; "length {length}, ")?;
+    let call = Call {
+        name,
+        s,
+        sep: Separation::Kueppers,
+        inks: inks_of(51, 102, 204),
+    };
+    call.show_sets(rt, run, 0, length)
 }
 
-fn show_call(name: &[u8], s: Screen, sep: Separation, inks: Inks) {
-    io::write_all(1, name);
-    io::write_all(1, b", ");
-    show_screen(s);
-    io::write_all(1, b", ");
-    show_separation(sep);
-    io::write_all(1, b", ");
-    show_inks(inks);
-    io::write_all(1, b": ");
+// What is called with: the name of the primaries or the records, the screen, the separation and the inks.
+#[derive(Clone, Copy)]
+struct Call<'a> {
+    name: &'a str,
+    s: Screen,
+    sep: Separation,
+    inks: Inks,
 }
 
-fn show_answer(answer: Prediction) {
-    match answer {
-        Prediction::Colour(x, y, z) => {
-            io::write_all(1, b"colour");
-            show_values(x, y, z);
-        }
-        Prediction::BadPrimary(colorant) => {
-            io::write_all(1, b"bad primary");
-            spaced(colorant);
-        }
-        Prediction::BadScreen(refusal) => {
-            io::write_all(1, b"bad screen");
-            spaced(refusal);
-        }
+impl Call<'_> {
+    fn show(&self, rt: &impl Print, ps: [Xyz; 8]) -> io::Result<()> {
+        let answer = Plain(predict::predict(self.s, self.sep, self.inks, ps));
+        println!(rt; "{self}: {answer}")
     }
-}
 
-fn show_set_answer(answer: Cellular) {
-    match answer {
-        Cellular::Colour(x, y, z) => {
-            io::write_all(1, b"cellular");
-            show_values(x, y, z);
-        }
-        Cellular::BadSet(set) => {
-            io::write_all(1, b"bad set");
-            spaced(set);
-        }
-        Cellular::Refused(refusal) => {
-            io::write_all(1, b"refused");
-            spaced(refusal);
-        }
+    // Lends so many places of a run, from one on, where it has them.
+    fn show_sets(
+        &self,
+        rt: &impl Print,
+        run: &[f64],
+        from: usize,
+        length: usize,
+    ) -> io::Result<()> {
+        let Some(sets) = run.get(from..).and_then(|rest| rest.get(..length)) else {
+            return Ok(());
+        };
+        let answer = Sets(predict::predict_cellular(self.s, self.sep, self.inks, sets));
+        println!(rt; "{self}: {answer}")
     }
 }
 
-fn show_values(x: f64, y: f64, z: f64) {
-    bits(x);
-    bits(y);
-    bits(z);
-}
-
-fn bits(v: f64) {
-    if v != v {
-        io::write_all(1, b" nan");
-    } else {
-        io::write_all(1, b" ");
-        io::print_hex(1, f64::to_bits(v), 16);
+impl fmt::Display for Call<'_> {
+    fn fmt<W: fmt::Write>(&self, f: &mut fmt::Formatter<W>) -> fmt::Result {
+        let Screen { a, b, n, k, g, .. } = self.s;
+        let Inks { c, m, y } = self.inks;
+        let sep = match self.sep {
+            Separation::Demichel => "demichel",
+            Separation::Kueppers => "kueppers",
+        };
+        write!(f, "{}, {a} {b} {n} {k} {g}, {sep}, {c} {m} {y}", self.name)
     }
 }
 
-fn show_separation(sep: Separation) {
-    match sep {
-        Separation::Demichel => {
-            io::write_all(1, b"demichel");
-        }
-        Separation::Kueppers => {
-            io::write_all(1, b"kueppers");
+// What `predict` answers.
+#[derive(Clone, Copy)]
+struct Plain(Result<Xyz, PredictionError>);
+
+impl fmt::Display for Plain {
+    fn fmt<W: fmt::Write>(&self, f: &mut fmt::Formatter<W>) -> fmt::Result {
+        match self.0 {
+            Ok(p) => write!(f, "colour {}", Values(p)),
+            Err(PredictionError::Primary(colorant)) => write!(f, "bad primary {colorant}"),
+            Err(PredictionError::Screen(refusal)) => write!(f, "bad screen {}", u32::from(refusal)),
         }
     }
 }
 
-// The heading of what is shown of a screen that stores these numbers.
-fn show_stored(s: Screen) {
-    io::write_all(1, b"# stored ");
-    number(s.columns);
-    spaced(s.rows);
-    spaced(s.shift);
-    io::write_all(1, b"\n");
+// What `predict_cellular` answers.
+#[derive(Clone, Copy)]
+struct Sets(Result<Xyz, CellularError>);
+
+impl fmt::Display for Sets {
+    fn fmt<W: fmt::Write>(&self, f: &mut fmt::Formatter<W>) -> fmt::Result {
+        match self.0 {
+            Ok(p) => write!(f, "cellular {}", Values(p)),
+            Err(CellularError::Set(set)) => write!(f, "bad set {set}"),
+            Err(CellularError::Refused(refusal)) => write!(f, "refused {}", u32::from(refusal)),
+        }
+    }
 }
 
-fn show_screen(s: Screen) {
-    number(s.a);
-    spaced(s.b);
-    spaced(s.n);
-    spaced(s.k);
-    spaced(s.g);
+// X, Y and Z.
+#[derive(Clone, Copy)]
+struct Values(Xyz);
+
+impl fmt::Display for Values {
+    fn fmt<W: fmt::Write>(&self, f: &mut fmt::Formatter<W>) -> fmt::Result {
+        write!(f, "{} {} {}", Bits(self.0.x), Bits(self.0.y), Bits(self.0.z))
+    }
 }
 
-fn show_inks(inks: Inks) {
-    number(inks.c as u32);
-    spaced(inks.m as u32);
-    spaced(inks.y as u32);
-}
+// The bits of a value; a NaN has none that are told.
+#[derive(Clone, Copy)]
+struct Bits(f64);
 
-fn spaced(n: u32) {
-    io::write_all(1, b" ");
-    number(n);
-}
-
-fn number(n: u32) {
-    io::print_decimal(1, n as u64);
+impl fmt::Display for Bits {
+    fn fmt<W: fmt::Write>(&self, f: &mut fmt::Formatter<W>) -> fmt::Result {
+        if self.0.is_nan() {
+            write!(f, "nan")
+        } else {
+            write!(f, "{:016x}", self.0.to_bits())
+        }
+    }
 }

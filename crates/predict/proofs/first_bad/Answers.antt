@@ -1,24 +1,15 @@
--- `predict::first_bad` meets its contract: no primary before the one that it looks at is bad. The measure is how many are left.
--- Assumes nothing.
-use mathlib.Core.Path.{ap}
-use mathlib.Core.Bool.{not}
-use Rattle.arith.proofs.FirstLaws.{searching_start, searching_on, searching_found, searching_end}
-use Rattle.arith.proofs.RefusalLaws.{failed, passed}
-use Rattle.predict.specs.Predicted.{first_bad}
+-- `predict::first_bad` meets its contract. Assumes nothing.
+use mathlib.Core.Path.{◌≡◌, ◌∙◌}
+use mathlib.Core.Bool.{true, false}
+use borrow.Author.Tests.{tests}
+use Rattle.std.proofs.Common.{rules}
+use Rattle.std.proofs.lemmas.Iterator.{YieldsList-from_slice, IsFirst-from_position}
+use Rattle.predict.specs.Predicted.{admitted}
+use Rattle.predict.proofs.Steps.{bad_found}
 use Rattle.predict.proofs.first_bad.Goals as goal
 
-pub loop-first-init : goal.loop-first-init
-loop-first-init c = searching_start _ _
-
-pub returns-then-not-is_admitted : goal.returns-then-not-is_admitted
-unfolding first_bad
-returns-then-not-is_admitted c =
-    searching_found c.loop-first.invariant (ap not (failed c.is_admitted.ensures c.if-not-is_admitted.true))
-
-pub loop-first-preserved : goal.loop-first-preserved
-loop-first-preserved c =
-    searching_on c.loop-first.invariant c.loop-first-test.true (ap not (passed c.is_admitted.ensures c.if-not-is_admitted.false))
-
 pub returns : goal.returns
-unfolding first_bad
-returns c = searching_end c.loop-first.invariant c.loop-first-test.false
+returns c =
+    let h = IsFirst-from_position _ _ _ (λ p. admitted p ≡ false) (λ p. admitted p ≡ true) c.position.ensures.ran (YieldsList-from_slice c.args.primaries cc) (λ x q k. search (rules, tests)) (λ x q k. search (rules, tests)) in
+    let same : c.map.result ≡ c.position.result = search rules in
+    same ∙ bad_found c.args.primaries (search rules) _ h

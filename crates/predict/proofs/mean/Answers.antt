@@ -4,4 +4,4 @@ use Rattle.predict.proofs.mean.Goals as goal
 
 pub returns : goal.returns
 unfolding channel
-returns c = rw c.total-sum.ensures
+returns c = rw (c.total-sum.ensures, c.from-cells.ensures)

@@ -1,19 +1,18 @@
--- `predict::total` meets its contract: after j turns it has the sum of the first j records. Assumes nothing.
-use mathlib.Core.Path.{◌≡◌, refl, ◌∙◌}
-use native.Mathlib.Omega.{arith}
+-- `predict::total` meets its contract. Assumes nothing.
+use mathlib.Core.Path.{◌∙◌}
 use lib.Ieee.{of_bits}
-use Rattle.predict.specs.Predicted.{primary, total}
-use Rattle.predict.proofs.Steps.{totals_next}
+use borrow.Author.Tests.{tests}
+use Rattle.std.proofs.Common.{rules}
+use Rattle.std.proofs.lemmas.Iterator.{YieldsList-from_slice, YieldsList-from_zip}
+use Rattle.std.proofs.lemmas.Iterator.Consumers.{YieldsList-at, fold_from_yields_List}
+use Rattle.predict.specs.Predicted.{total}
+use Rattle.predict.proofs.Steps.{one_more, summed_all}
 use Rattle.predict.proofs.total.Goals as goal
 
-pub loop-j-init : goal.loop-j-init
-unfolding total of_bits
-loop-j-init c = (omega arith, refl)
-
-pub loop-j-preserved : goal.loop-j-preserved
-loop-j-preserved c = (omega arith, c.added-sum.ensures ∙ rw c.loop-j.invariant.1 (totals_next _ _ (primary c.args.records)))
-
 pub returns : goal.returns
+unfolding total of_bits
 returns c =
-    let end : c.loop-j.j ≡ 8 = omega arith in
-    rw (← end) c.loop-j.invariant.1
+    fold_from_yields_List _ one_more _ _ c.fold.ensures.ran
+    (YieldsList-from_zip (YieldsList-at c.zip.ensures.first (YieldsList-from_slice c.args.times cc)) (YieldsList-from_slice c.args.records c.zip.ensures.second.0))
+    (λ a x b q k. search (rules, tests))
+    ∙ summed_all c.args.times c.args.records (search rules) (search rules)

@@ -1,20 +1,15 @@
--- `predict::cellular::first_bad_set` meets its contract: no set before the one that it looks at is bad. The measure is how many are left.
--- Assumes nothing.
-use native.Mathlib.Omega.{arith}
-use Rattle.arith.proofs.RefusalLaws.{failed, passed}
-use Rattle.predict.proofs.CellularSteps.{sets_start, sets_on, sets_found, sets_end}
+-- `predict::cellular::first_bad_set` meets its contract. Assumes nothing.
+use mathlib.Core.Path.{◌≡◌}
+use mathlib.Core.Bool.{true, false}
+use borrow.Author.Tests.{tests}
+use Rattle.std.proofs.Common.{rules}
+use Rattle.std.proofs.lemmas.Iterator.{first_from_Range}
+use Rattle.predict.specs.Predicted.{admitted}
+use Rattle.predict.specs.Cellular.{record_of}
+use Rattle.predict.proofs.CellularSteps.{set_found}
 use Rattle.predict.proofs.cellular.first_bad_set.Goals as goal
 
-pub loop-set-init : goal.loop-set-init
-loop-set-init c = sets_start _
-
-pub returns-then-not-is_admitted : goal.returns-then-not-is_admitted
-returns-then-not-is_admitted c =
-    sets_found c.loop-set.invariant (rw c.record_of.ensures at (failed c.is_admitted.ensures c.if-not-is_admitted.true))
-
-pub loop-set-preserved : goal.loop-set-preserved
-loop-set-preserved c =
-    sets_on c.loop-set.invariant (omega arith) (rw c.record_of.ensures at (passed c.is_admitted.ensures c.if-not-is_admitted.false))
-
 pub returns : goal.returns
-returns c = sets_end c.loop-set.invariant c.loop-set-test.false
+returns c =
+    set_found c.args.sets.now _
+    (first_from_Range _ _ _ _ (λ t. admitted (record_of c.args.sets.now t) ≡ false) (λ t. admitted (record_of c.args.sets.now t) ≡ true) c.find.ensures.ran (λ x q k. search (rules, tests)) (λ x q k. search (rules, tests)))
