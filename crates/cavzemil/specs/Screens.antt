@@ -1,9 +1,9 @@
 -- Rule 14.2, the structs of screens: the library's, and those that C lays out, field by field, either way.
 -- Assumes nothing: these are definitions.
 use Rattle.screen.specs.declared.Screen as Screens
-use Rattle.screen.specs.declared.places.Place as Places
-use Rattle.screen.specs.declared.bricks.Brick as Bricks
-use Rattle.screen.specs.declared.making.Made as Mades
+use Rattle.screen.specs.Phase as Places
+use Rattle.screen.specs.Brick as Bricks
+use Rattle.screen.specs.Made as Mades
 use Rattle.cavzemil.specs.declared.screens.Screen.{Screen}
 use Rattle.cavzemil.specs.declared.screens.Place.{Place}
 use Rattle.cavzemil.specs.declared.screens.Brick.{Brick}
@@ -20,7 +20,7 @@ screen_laid s =
 abbrev pub place_laid : Places.Place → Place
 place_laid p = record { refusal = p.refusal; phase = p.phase }
 
-abbrev pub brick_laid : Bricks.Brick → Brick
+abbrev pub brick_laid : Bricks.BrickAnswer → Brick
 brick_laid b = record { refusal = b.refusal; columns = b.columns; rows = b.rows; shift = b.shift }
 
 abbrev pub made_laid : Mades.Made → Made

@@ -8,7 +8,7 @@ use Rattle.screen.specs.Phase.{place_refusal}
 use Rattle.separation.specs.declared.Separation.{Separation}
 use Rattle.separation.specs.declared.Inks.{Inks}
 use Rattle.render.specs.declared.Window as Windows
-use Rattle.render.specs.declared.Rendering as Renderings
+use Rattle.render.specs.Answers as Renderings
 use Rattle.render.specs.Windows.{cell_of, window_cells}
 use Rattle.render.specs.Answers.{window_refusal, brick_refusal, answer_of}
 use Rattle.cavzemil.specs.declared.screens.Screen.{Screen}

@@ -1,11 +1,14 @@
 // Cellular prediction: the colour by the primaries of sets of colorants.
 ghost use Rattle.std.specs.Prelude.{◌≡◌};
+ghost use Rattle.predict.specs.CellularPrediction.{cellular_of};
 ghost use Rattle.predict.specs.Cellular.{numbered_of};
 ghost use Rattle.separation.specs.Weights.{inks_of};
 ghost use Rattle.cavzemil.specs.Cellular.{cellular_laid, uncoloured, cellular_answer};
 
-use crate::screens::{Screen, screen_of};
-use crate::separations::{UNKNOWN, inks_of, is_known, separation_of};
+use crate::screens::Screen;
+use crate::separations::{UNKNOWN, inks_of, separation_of};
+use arith::Refusal;
+use predict::{CellularError, Xyz};
 
 // The predicted X, Y and Z, or the number of what refuses the call and the set that it carries.
 #[repr(C)]
@@ -31,27 +34,26 @@ pub extern "C" fn cavzemil_predict_cellular(
 ) -> Cellular
     ensures { result ≡ cellular_answer s separation (inks_of c m y) primaries.now }
 {
-    if !is_known(separation) {
+    let Some(sep) = separation_of(separation) else {
         return uncoloured(UNKNOWN, 0);
-    }
-    let sep = separation_of(separation);
-    laid(predict::predict_cellular(screen_of(s), sep, inks_of(c, m, y), primaries))
+    };
+    laid(predict::predict_cellular(s.into(), sep, inks_of(c, m, y), primaries))
 }
 
 // The library's answer in numbers.
-fn laid(answer: predict::Cellular) -> Cellular
-    ensures { result ≡ cellular_laid (numbered_of answer) }
+fn laid(answer: Result<Xyz, CellularError>) -> Cellular
+    ensures { result ≡ cellular_laid (numbered_of (cellular_of answer)) }
 {
     match answer {
-        predict::Cellular::Colour(x, y, z) => Cellular {
+        Ok(Xyz { x, y, z }) => Cellular {
             refusal: 0,
             set: 0,
-            x: x,
-            y: y,
-            z: z,
+            x,
+            y,
+            z,
         },
-        predict::Cellular::BadSet(set) => uncoloured(11, set),
-        predict::Cellular::Refused(refusal) => uncoloured(refusal, 0),
+        Err(CellularError::Set(set)) => uncoloured(Refusal::Primary.into(), set),
+        Err(CellularError::Refused(refusal)) => uncoloured(refusal.into(), 0),
     }
 }
 
@@ -60,8 +62,8 @@ fn uncoloured(refusal: u32, set: u32) -> Cellular
     ensures { result ≡ uncoloured refusal set }
 {
     Cellular {
-        refusal: refusal,
-        set: set,
+        refusal,
+        set,
         x: 0.0,
         y: 0.0,
         z: 0.0,

@@ -1,13 +1,16 @@
 // Colours: the counts of the colorants, and the colour that they give together.
 ghost use Rattle.std.specs.Prelude.{◌≡◌, ◌<◌, length};
+ghost use Rattle.predict.specs.Prediction.{prediction_of};
 ghost use Rattle.predict.specs.Predicted.{triple_at};
 ghost use Rattle.predict.specs.Numbered.{numbered_of};
 ghost use Rattle.separation.specs.Weights.{inks_of};
 ghost use Rattle.cavzemil.specs.Colours.{counts_answer, primaries_in, numbered_laid, colourless, predict_answer};
 
-use crate::screens::{Screen, screen_of};
-use crate::separations::{UNKNOWN, inks_of, is_known, separation_of};
-use predict::Xyz;
+use crate::screens::Screen;
+use crate::separations::{UNKNOWN, inks_of, separation_of};
+use arith::{Refusal, number_of};
+use predict::{PredictionError, Xyz};
+use std::array;
 
 // How many of a screen's cells each colorant gets, or the number of what refuses it.
 #[repr(C)]
@@ -33,18 +36,16 @@ pub struct Prediction {
 pub extern "C" fn cavzemil_counts_of(s: Screen, separation: u32, c: u8, m: u8, y: u8) -> Counts
     ensures { result ≡ counts_answer s separation (inks_of c m y) }
 {
-    if !is_known(separation) {
+    let Some(sep) = separation_of(separation) else {
         return Counts {
             refusal: UNKNOWN,
-            of: [0u32; 8],
+            of: [0; 8],
         };
-    }
-    let sep = separation_of(separation);
-    let counts = quantiser::counts(screen_of(s), sep, inks_of(c, m, y));
-    let of = counts.of;
+    };
+    let counts = quantiser::counts(s.into(), sep, inks_of(c, m, y));
     Counts {
-        refusal: counts.refusal,
-        of: of,
+        refusal: number_of(counts),
+        of: counts.unwrap_or([0; 8]),
     }
 }
 
@@ -63,17 +64,13 @@ pub extern "C" fn cavzemil_predict(
 ) -> Prediction
     ensures { result ≡ predict_answer s separation (inks_of c m y) primaries.now }
 {
-    if !is_known(separation) {
+    let Some(sep) = separation_of(separation) else {
         return colourless(UNKNOWN, 0);
-    }
-    let sep = separation_of(separation);
-    let given = screen_of(s);
+    };
+    let given = screen::Screen::from(s);
     if primaries.len() != 24 {
-        let refused = screen::refusal(given);
-        if refused != 0 {
-            return colourless(refused, 0);
-        }
-        return colourless(6, 0);
+        let refused = screen::check(given).err().unwrap_or(Refusal::InputLength);
+        return colourless(refused.into(), 0);
     }
     let eight = primaries_in(primaries);
     numbered(predict::predict(given, sep, inks_of(c, m, y), eight))
@@ -84,16 +81,7 @@ fn primaries_in(values: &[f64]) -> [Xyz; 8]
     requires { length values.now ≡ 24 }
     ensures { result ≡ primaries_in values.now }
 {
-    [
-        primary_in(values, 0),
-        primary_in(values, 1),
-        primary_in(values, 2),
-        primary_in(values, 3),
-        primary_in(values, 4),
-        primary_in(values, 5),
-        primary_in(values, 6),
-        primary_in(values, 7),
-    ]
+    array::from_fn(|j| primary_in(values, j))
 }
 
 // The primary of colorant j.
@@ -110,19 +98,19 @@ fn primary_in(values: &[f64], j: usize) -> Xyz
 }
 
 // The library's answer in numbers.
-fn numbered(answer: predict::Prediction) -> Prediction
-    ensures { result ≡ numbered_laid (numbered_of answer) }
+fn numbered(answer: Result<Xyz, PredictionError>) -> Prediction
+    ensures { result ≡ numbered_laid (numbered_of (prediction_of answer)) }
 {
     match answer {
-        predict::Prediction::Colour(x, y, z) => Prediction {
+        Ok(Xyz { x, y, z }) => Prediction {
             refusal: 0,
             colorant: 0,
-            x: x,
-            y: y,
-            z: z,
+            x,
+            y,
+            z,
         },
-        predict::Prediction::BadPrimary(colorant) => colourless(11, colorant),
-        predict::Prediction::BadScreen(refusal) => colourless(refusal, 0),
+        Err(PredictionError::Primary(colorant)) => colourless(Refusal::Primary.into(), colorant),
+        Err(PredictionError::Screen(refusal)) => colourless(refusal.into(), 0),
     }
 }
 
@@ -131,8 +119,8 @@ fn colourless(refusal: u32, colorant: u32) -> Prediction
     ensures { result ≡ colourless refusal colorant }
 {
     Prediction {
-        refusal: refusal,
-        colorant: colorant,
+        refusal,
+        colorant,
         x: 0.0,
         y: 0.0,
         z: 0.0,

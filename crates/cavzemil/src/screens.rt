@@ -4,6 +4,8 @@ ghost use Rattle.screen.specs.Phase.{place_of};
 ghost use Rattle.screen.specs.Brick.{brick_of, buffer_refusal, filled};
 ghost use Rattle.cavzemil.specs.Screens.{screen_of, place_laid, brick_laid};
 
+use arith::number_of;
+
 // A screen: the slope a/b, the cell count n, the number of subscreens k and the offset g; and, stored with
 // them, the columns, the rows and the shift of its brick.
 #[repr(C)]
@@ -38,18 +40,20 @@ pub struct Brick {
 }
 
 // The library's screen of the same eight numbers.
-pub(crate) fn screen_of(s: Screen) -> screen::Screen
-    ensures { result ≡ screen_of s }
-{
-    screen::Screen {
-        a: s.a,
-        b: s.b,
-        n: s.n,
-        k: s.k,
-        g: s.g,
-        columns: s.columns,
-        rows: s.rows,
-        shift: s.shift,
+impl From<Screen> for screen::Screen {
+    ghost from_gives = { λ s t. t ≡ screen_of s };
+
+    fn from(s: Screen) -> screen::Screen {
+        screen::Screen {
+            a: s.a,
+            b: s.b,
+            n: s.n,
+            k: s.k,
+            g: s.g,
+            columns: s.columns,
+            rows: s.rows,
+            shift: s.shift,
+        }
     }
 }
 
@@ -58,21 +62,29 @@ pub(crate) fn screen_of(s: Screen) -> screen::Screen
 pub extern "C" fn cavzemil_phase_at(s: Screen, x: u32, y: u32) -> Place
     ensures { result ≡ place_laid (place_of (screen_of s) x y) }
 {
-    let place = screen::phase_at(screen_of(s), x, y);
+    let phase = screen::phase_at(s.into(), x, y);
     Place {
-        refusal: place.refusal,
-        phase: place.phase,
+        refusal: number_of(phase),
+        phase: phase.unwrap_or(0),
     }
 }
+
+// What stands beside a refusal.
+const NONE: screen::Brick = screen::Brick {
+    columns: 0,
+    rows: 0,
+    shift: 0,
+};
 
 // The brick of a screen.
 #[unsafe(no_mangle)]
 pub extern "C" fn cavzemil_brick_of(s: Screen) -> Brick
     ensures { result ≡ brick_laid (brick_of (screen_of s)) }
 {
-    let brick = screen::brick_of(screen_of(s));
+    let answer = screen::brick_of(s.into());
+    let brick = answer.unwrap_or(NONE);
     Brick {
-        refusal: brick.refusal,
+        refusal: number_of(answer),
         columns: brick.columns,
         rows: brick.rows,
         shift: brick.shift,
@@ -86,5 +98,5 @@ pub extern "C" fn cavzemil_fill_brick(s: Screen, brick: &mut [u16]) -> u32
     ensures answer { result ≡ buffer_refusal (screen_of s) (length brick.old) }
     ensures buffer { brick.new ≡ filled (screen_of s) brick.old }
 {
-    screen::fill_brick(screen_of(s), brick)
+    number_of(screen::fill_brick(s.into(), brick))
 }

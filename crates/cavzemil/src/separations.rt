@@ -1,32 +1,22 @@
 // The number of a separation, and the ink values that it is for.
 ghost use Rattle.std.specs.Prelude.{◌≡◌};
 ghost use Rattle.separation.specs.Weights.{inks_of};
-ghost use Rattle.cavzemil.specs.Separations.{known, separation_of};
+ghost use Rattle.cavzemil.specs.Separations.{taken};
 
 use separation::{Inks, Separation};
 
 // The refusal of a number that no separation has.
 pub(crate) const UNKNOWN: u32 = 100;
 
-// Whether a number is that of a separation.
-pub(crate) fn is_known(separation: u32) -> bool
-    ensures { result ≡ known separation }
+// The separation of a number, where one has it.
+pub(crate) fn separation_of(number: u32) -> Option<Separation>
+    ensures { result ≡ taken number }
 {
-    separation < 2
-}
-
-// The separation of a number that is known.
-pub(crate) fn separation_of(separation: u32) -> Separation
-    ensures { result ≡ separation_of separation }
-{
-    if separation == 0 {
-        return Separation::Demichel;
-    }
-    Separation::Kueppers
+    Separation::try_from(number).ok()
 }
 
 pub(crate) fn inks_of(c: u8, m: u8, y: u8) -> Inks
     ensures { result ≡ inks_of c m y }
 {
-    Inks { c: c, m: m, y: y }
+    Inks { c, m, y }
 }

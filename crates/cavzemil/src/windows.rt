@@ -1,10 +1,12 @@
 // Cells: that of a lone place, and those of a window by the two renderers.
 ghost use Rattle.std.specs.Prelude.{◌≡◌};
 ghost use Rattle.separation.specs.Weights.{inks_of};
+ghost use Rattle.render.specs.Answers.{told};
 ghost use Rattle.cavzemil.specs.Windows.{window_of, rendering_laid, unrendered, cell_answer, render_answer, render_output, brick_answer, brick_output};
 
-use crate::screens::{Screen, screen_of};
-use crate::separations::{UNKNOWN, inks_of, is_known, separation_of};
+use crate::screens::Screen;
+use crate::separations::{UNKNOWN, inks_of, separation_of};
+use arith::{Refusal, number_of};
 
 // The part of the sheet that a call renders: its corner, and how many columns and rows it has.
 #[repr(C)]
@@ -33,25 +35,26 @@ pub struct Rendering {
 }
 
 // The library's window of the same four numbers.
-fn window_of(w: Window) -> render::Window
-    ensures { result ≡ window_of w }
-{
-    render::Window {
-        x: w.x,
-        y: w.y,
-        columns: w.columns,
-        rows: w.rows,
+impl From<Window> for render::Window {
+    ghost from_gives = { λ w v. v ≡ window_of w };
+
+    fn from(w: Window) -> render::Window {
+        render::Window {
+            x: w.x,
+            y: w.y,
+            columns: w.columns,
+            rows: w.rows,
+        }
     }
 }
 
 // The library's answer, laid out for C.
-fn laid(answer: render::Rendering) -> Rendering
-    ensures { result ≡ rendering_laid answer }
+fn laid(answer: Result<[u64; 8], Refusal>) -> Rendering
+    ensures { result ≡ rendering_laid (told answer) }
 {
-    let tallies = answer.tallies;
     Rendering {
-        refusal: answer.refusal,
-        tallies: tallies,
+        refusal: number_of(answer),
+        tallies: answer.unwrap_or([0; 8]),
     }
 }
 
@@ -61,7 +64,7 @@ fn unrendered() -> Rendering
 {
     Rendering {
         refusal: UNKNOWN,
-        tallies: [0u64; 8],
+        tallies: [0; 8],
     }
 }
 
@@ -78,17 +81,16 @@ pub extern "C" fn cavzemil_cell_at(
 ) -> Cell
     ensures { result ≡ cell_answer s separation x y (inks_of c m yellow) }
 {
-    if !is_known(separation) {
+    let Some(sep) = separation_of(separation) else {
         return Cell {
             refusal: UNKNOWN,
             colorant: 0,
         };
-    }
-    let sep = separation_of(separation);
-    let cell = render::cell_at(screen_of(s), sep, x, y, inks_of(c, m, yellow));
+    };
+    let colorant = render::cell_at(s.into(), sep, x, y, inks_of(c, m, yellow));
     Cell {
-        refusal: cell.refusal,
-        colorant: cell.colorant,
+        refusal: number_of(colorant),
+        colorant: u32::from(colorant.unwrap_or(0)),
     }
 }
 
@@ -104,11 +106,10 @@ pub extern "C" fn cavzemil_render(
     ensures answer { result ≡ render_answer s separation w input.now out.old }
     ensures output { out.new ≡ render_output s separation w input.now out.old }
 {
-    if !is_known(separation) {
+    let Some(sep) = separation_of(separation) else {
         return unrendered();
-    }
-    let sep = separation_of(separation);
-    laid(render::render(screen_of(s), sep, window_of(w), input, out))
+    };
+    laid(render::render(s.into(), sep, w.into(), input, out))
 }
 
 // Renders a window, its phases read from a lent brick.
@@ -124,9 +125,8 @@ pub extern "C" fn cavzemil_render_brick(
     ensures answer { result ≡ brick_answer s separation w input.now brick.now out.old }
     ensures output { out.new ≡ brick_output s separation w input.now brick.now out.old }
 {
-    if !is_known(separation) {
+    let Some(sep) = separation_of(separation) else {
         return unrendered();
-    }
-    let sep = separation_of(separation);
-    laid(render::render_brick(screen_of(s), sep, window_of(w), input, brick, out))
+    };
+    laid(render::render_brick(s.into(), sep, w.into(), input, brick, out))
 }
