@@ -1,9 +1,9 @@
 pub mod Published
 pub mod AllMarks
+mod ListLaws
 mod JobLaws
 mod AnswerLaws
 mod CostLaws
-mod WindowLoop
 mod JobLoop
 mod ApartLaws
 mod MostLaws

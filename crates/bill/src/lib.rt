@@ -1,7 +1,6 @@
 // The ink bill: what a job costs, by the tallies of its windows (rules 15.1 to 15.6).
 #![tactic(auto)]
 
-pub mod answer;
 mod charging;
 
 pub use charging::charge;
