@@ -1,4 +1,6 @@
 -- What the proofs of several functions use, and the marks.
-mod AnswerLaws
-mod PredictionLaws
+pub mod SeparationLaws
+pub mod AnswerLaws
+pub mod PredictionLaws
+pub mod CellularLaws
 pub mod AllMarks

@@ -1,6 +1,6 @@
 -- Rule 14.2, the struct of a charge: the library's, and the one that C lays out, field by field.
 -- Assumes nothing: these are definitions.
-use Rattle.bill.specs.declared.answer.Charge as Charges
+use Rattle.bill.specs.Charges as Charges
 use Rattle.cavzemil.specs.declared.bills.Charge.{Charge}
 
 abbrev pub charge_laid : Charges.Charge → Charge

@@ -1,6 +1,6 @@
 -- Rule 14.3: the number of a separation, and the refusal of any other.
 -- Assumes nothing: these are definitions.
-use Rattle.std.specs.Prelude.{ℕ, zero, suc, Bool, ◌||◌, cond, eqb, Option, Some, None}
+use Rattle.std.specs.Prelude.{ℕ, zero, suc, Bool, ◌||◌, eqb}
 use Rattle.arith.specs.Refusal.{unless}
 use Rattle.separation.specs.declared.Separation.{Separation}
 use Rattle.separation.specs.declared.Separation.TheVariants.{Demichel, Kueppers}
@@ -12,10 +12,6 @@ known separation = eqb separation 0 || eqb separation 1
 unfoldable pub separation_of : ℕ → Separation
 separation_of zero = Demichel
 separation_of (suc number) = Kueppers
-
--- what a number stands for
-abbrev pub taken : ℕ → Option Separation
-taken separation = cond (known separation) (Some (separation_of separation)) None
 
 -- the refusal of a call for a separation, given what the library refuses it as
 abbrev pub refused_for : ℕ → ℕ → ℕ

@@ -3,6 +3,8 @@ ghost use Rattle.std.specs.Prelude.{◌≡◌};
 ghost use Rattle.bill.specs.Charges.{charged};
 ghost use Rattle.cavzemil.specs.Bills.{charge_laid};
 
+use arith::number_of;
+
 // Cents for a million cells, by colorant.
 #[repr(C)]
 #[derive(Clone, Copy)]
@@ -19,14 +21,14 @@ pub struct Charge {
 }
 
 // What the cells of a job cost. The run has the tallies of one window after the other, eight each.
+#[tactic(auto, using(crate::proofs::AnswerLaws::charge_cents))]
 #[unsafe(no_mangle)]
 pub extern "C" fn cavzemil_charge_of(prices: Prices, tallies: &[u64]) -> Charge
     ensures { result ≡ charge_laid (charged prices.of tallies.now) }
 {
-    let of = prices.of;
-    let charge = bill::charge(of, tallies);
+    let charge = bill::charge(prices.of, tallies);
     Charge {
-        refusal: charge.refusal,
-        cents: charge.cents,
+        refusal: number_of(charge),
+        cents: charge.unwrap_or(0),
     }
 }

@@ -23,6 +23,7 @@ pub struct Cellular {
 
 // The colour that a screen's cells give together for one ink triple, by the primaries of sets of colorants:
 // 765 values, X, Y and Z of each of the 255 sets in turn.
+#[tactic(auto, using(crate::proofs::CellularLaws::cellular_unknown, crate::proofs::CellularLaws::cellular_known))]
 #[unsafe(no_mangle)]
 pub extern "C" fn cavzemil_predict_cellular(
     s: Screen,

@@ -10,7 +10,6 @@ use crate::screens::Screen;
 use crate::separations::{UNKNOWN, inks_of, separation_of};
 use arith::{Refusal, number_of};
 use predict::{PredictionError, Xyz};
-use std::array;
 
 // How many of a screen's cells each colorant gets, or the number of what refuses it.
 #[repr(C)]
@@ -32,6 +31,7 @@ pub struct Prediction {
 }
 
 // The quantised counts of the eight colorants for one ink triple.
+#[tactic(auto, using(crate::proofs::AnswerLaws::counts_unknown, crate::proofs::AnswerLaws::counts_number, crate::proofs::AnswerLaws::counts_known), unfolding(arith::specs::Run::upto))]
 #[unsafe(no_mangle)]
 pub extern "C" fn cavzemil_counts_of(s: Screen, separation: u32, c: u8, m: u8, y: u8) -> Counts
     ensures { result ≡ counts_answer s separation (inks_of c m y) }
@@ -81,7 +81,16 @@ fn primaries_in(values: &[f64]) -> [Xyz; 8]
     requires { length values.now ≡ 24 }
     ensures { result ≡ primaries_in values.now }
 {
-    array::from_fn(|j| primary_in(values, j))
+    [
+        primary_in(values, 0),
+        primary_in(values, 1),
+        primary_in(values, 2),
+        primary_in(values, 3),
+        primary_in(values, 4),
+        primary_in(values, 5),
+        primary_in(values, 6),
+        primary_in(values, 7),
+    ]
 }
 
 // The primary of colorant j.

@@ -58,6 +58,7 @@ impl From<Screen> for screen::Screen {
 }
 
 // The phase of the place in column x and row y of the sheet.
+#[tactic(auto, using(crate::proofs::AnswerLaws::place_number, crate::proofs::AnswerLaws::place_phase))]
 #[unsafe(no_mangle)]
 pub extern "C" fn cavzemil_phase_at(s: Screen, x: u32, y: u32) -> Place
     ensures { result ≡ place_laid (place_of (screen_of s) x y) }
@@ -77,6 +78,7 @@ const NONE: screen::Brick = screen::Brick {
 };
 
 // The brick of a screen.
+#[tactic(auto, using(crate::proofs::AnswerLaws::brick_number, crate::proofs::AnswerLaws::brick_columns, crate::proofs::AnswerLaws::brick_rows, crate::proofs::AnswerLaws::brick_shift))]
 #[unsafe(no_mangle)]
 pub extern "C" fn cavzemil_brick_of(s: Screen) -> Brick
     ensures { result ≡ brick_laid (brick_of (screen_of s)) }

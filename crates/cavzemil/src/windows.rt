@@ -49,6 +49,7 @@ impl From<Window> for render::Window {
 }
 
 // The library's answer, laid out for C.
+#[tactic(auto, using(crate::proofs::AnswerLaws::told_number, crate::proofs::AnswerLaws::told_tallies), unfolding(arith::specs::Run::zeros))]
 fn laid(answer: Result<[u64; 8], Refusal>) -> Rendering
     ensures { result ≡ rendering_laid (told answer) }
 {
@@ -69,6 +70,7 @@ fn unrendered() -> Rendering
 }
 
 // The colorant of the place in column x and row y of the sheet, for ink values of its own.
+#[tactic(auto, using(crate::proofs::AnswerLaws::cell_unknown, crate::proofs::AnswerLaws::cell_number, crate::proofs::AnswerLaws::cell_known))]
 #[unsafe(no_mangle)]
 pub extern "C" fn cavzemil_cell_at(
     s: Screen,
@@ -95,6 +97,7 @@ pub extern "C" fn cavzemil_cell_at(
 }
 
 // Renders a window, its phases worked out.
+#[tactic(auto, using(crate::proofs::AnswerLaws::render_unknown, crate::proofs::AnswerLaws::output_unknown, crate::proofs::AnswerLaws::render_known, crate::proofs::AnswerLaws::output_known))]
 #[unsafe(no_mangle)]
 pub extern "C" fn cavzemil_render(
     s: Screen,
@@ -113,6 +116,7 @@ pub extern "C" fn cavzemil_render(
 }
 
 // Renders a window, its phases read from a lent brick.
+#[tactic(auto, using(crate::proofs::AnswerLaws::brick_unknown, crate::proofs::AnswerLaws::brick_output_unknown, crate::proofs::AnswerLaws::brick_known, crate::proofs::AnswerLaws::brick_output_known))]
 #[unsafe(no_mangle)]
 pub extern "C" fn cavzemil_render_brick(
     s: Screen,

@@ -4,6 +4,7 @@ use Prim.Native.Nat.{ℕ, ◌≤◌, ◌<◌}
 use mathlib.Core.Path.{◌≡◌, refl, sym, ◌∙◌}
 use mathlib.Core.Bool.{Bool, true, false, ◌&&◌}
 use mathlib.Core.List.{List}
+use native.Mathlib.Omega.{arith}
 use lib.ListN.{length}
 use borrow.Author.Tests.{eqb-true, eq-eqb, ne_eqb, le-leb, lt-leb}
 use mathlib.Core.Logic.{◌⊎◌, inl, inr}
@@ -48,7 +49,7 @@ module _ (columns rows input stated output due : ℕ) where
   size_5 e told = go (on_sheet 0 0 columns rows) told
     where
       go : (on : Bool) → number e ≡ unless on 5 0 → number e ≡ unless on 5 (lengths_refusal input stated output due)
-      go true z = absurd (number_above e z)
+      go true z = absurd (omega (arith, number_above e, z))
       go false z = z
 
   -- where it passes, the lengths decide
@@ -90,7 +91,7 @@ module _ (columns rows : ℕ) (cells memory : List ℕ) where
   pub pack_size_lem : (e : Refusal) → number e ≡ pack_size columns rows (length cells) (length memory)
       → (number e ≡ pack_refusal columns rows cells (length memory)) × (memory ≡ packed columns rows cells memory)
   unfolding pack_refusal packed
-  pack_size_lem e told = size_refused _ (colorants_only cells) 8 (planes_of columns rows cells) memory told (number_above e)
+  pack_size_lem e told = size_refused _ (colorants_only cells) 8 (planes_of columns rows cells) memory told (λ z. omega (arith, number_above e, z))
 
 -- ---- unpacking, in the same way
 
@@ -113,7 +114,7 @@ module _ (columns rows : ℕ) (planes memory : List ℕ) where
   pub unpack_size_lem : (e : Refusal) → number e ≡ unpack_size columns rows (length planes) (length memory)
       → (number e ≡ unpack_refusal columns rows planes (length memory)) × (memory ≡ unpacked columns rows planes memory)
   unfolding unpack_refusal unpacked
-  unpack_size_lem e told = size_refused _ sound 8 (cells_of columns rows planes) memory told (number_above e)
+  unpack_size_lem e told = size_refused _ sound 8 (cells_of columns rows planes) memory told (λ z. omega (arith, number_above e, z))
 
 -- ---- what a call that is not refused has passed
 

@@ -1,7 +1,0 @@
--- `cavzemil::making::cavzemil_make_screen` meets its contract: the library's answer, field by field. Assumes nothing.
-use mathlib.Core.Path.{ap, ◌∙◌}
-use Rattle.cavzemil.specs.Screens.{made_laid}
-use Rattle.cavzemil.proofs.making.cavzemil_make_screen.Goals as goal
-
-pub returns : goal.returns
-returns c = c.laid.ensures ∙ ap made_laid c.make.ensures

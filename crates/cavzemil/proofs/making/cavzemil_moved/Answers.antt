@@ -1,7 +1,0 @@
--- `cavzemil::making::cavzemil_moved` meets its contract: the library's answer, field by field. Assumes nothing.
-use mathlib.Core.Path.{ap, ◌∙◌}
-use Rattle.cavzemil.specs.Screens.{made_laid}
-use Rattle.cavzemil.proofs.making.cavzemil_moved.Goals as goal
-
-pub returns : goal.returns
-returns c = c.laid.ensures ∙ ap made_laid (rw c.screen_of.ensures at c.moved.ensures)

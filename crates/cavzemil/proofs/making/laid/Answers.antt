@@ -1,5 +1,0 @@
--- `cavzemil::making::laid` meets its contract, field by field. Assumes nothing.
-use Rattle.cavzemil.proofs.making.laid.Goals as goal
-
-pub returns : goal.returns
-returns c = rw c.screen_laid.ensures

@@ -1,5 +1,0 @@
--- `cavzemil::planes::cavzemil_pack` meets its contract, which is the library's. Assumes nothing.
-use Rattle.cavzemil.proofs.planes.cavzemil_pack.Goals as goal
-
-pub returns : goal.returns
-returns c = c.pack.ensures

@@ -1,5 +1,0 @@
--- `cavzemil::planes::cavzemil_unpack` meets its contract, which is the library's. Assumes nothing.
-use Rattle.cavzemil.proofs.planes.cavzemil_unpack.Goals as goal
-
-pub returns : goal.returns
-returns c = c.unpack.ensures
