@@ -5,6 +5,8 @@
 
 use arith::{Refusal, number_of};
 use screen::{Brick, Screen};
+use std::io::Write;
+use std::{fmt, io};
 
 // What is shown beside a refusal.
 const NO_SCREEN: Screen = Screen {
@@ -24,321 +26,327 @@ const NO_BRICK: Brick = Brick {
     shift: 0,
 };
 
-fn main() {
-    io::write_all(
-        1,
-        b"# a b n k g: refusal; L H S; refusal and phase of (0, 1), of (3, 2); made: refusal, screen\n",
-    );
-    marks();
-    slopes();
-    cells_and_subscreens();
-    offsets();
-    lowest_first();
-    io::write_all(1, b"# a b n k g, x y: refusal and phase\n");
-    places();
-    io::write_all(
-        1,
-        b"# a b n k g, places: refusal; the buffer, every place 65535 before\n",
-    );
-    buffers();
-    io::write_all(
-        1,
-        b"# a screen as above, then what is replaced, one after the other: refusal, screen\n",
-    );
-    replacements();
-    io::write_all(
-        1,
-        b"# the same of screens that store these numbers, each replacement by itself\n",
-    );
-    stored();
-    io::write_all(
-        1,
-        b"# a screen as above, then corners, each seen from the one before: x y: refusal, screen\n",
-    );
-    corners();
+fn main(rt: HostRuntime) -> io::Result<()> {
+    let out = &mut io::writer(&rt);
+    writeln!(
+        out,
+        "# a b n k g: refusal; L H S; refusal and phase of (0, 1), of (3, 2); made: refusal, screen"
+    )?;
+    marks(out)?;
+    slopes(out)?;
+    cells_and_subscreens(out)?;
+    offsets(out)?;
+    lowest_first(out)?;
+    writeln!(out, "# a b n k g, x y: refusal and phase")?;
+    places(out)?;
+    writeln!(
+        out,
+        "# a b n k g, places: refusal; the buffer, every place 65535 before"
+    )?;
+    buffers(out)?;
+    writeln!(
+        out,
+        "# a screen as above, then what is replaced, one after the other: refusal, screen"
+    )?;
+    replacements(out)?;
+    writeln!(
+        out,
+        "# the same of screens that store these numbers, each replacement by itself"
+    )?;
+    stored(out)?;
+    writeln!(
+        out,
+        "# a screen as above, then corners, each seen from the one before: x y: refusal, screen"
+    )?;
+    corners(out)
 }
 
-fn marks() {
-    show(screen_of(4, 7, 105, 2, 0));
-    show(screen_of(4, 7, 70, 2, 0));
-    show(screen_of(1, 2, 1, 1, 0));
+fn marks(out: &mut impl Write) -> io::Result<()> {
+    show(out, screen_of(4, 7, 105, 2, 0))?;
+    show(out, screen_of(4, 7, 70, 2, 0))?;
+    show(out, screen_of(1, 2, 1, 1, 0))
 }
 
 // Refusal 1: a of 0 and 1, b of 64 and 65, a beside b, and a common divisor.
-fn slopes() {
-    show(screen_of(0, 7, 105, 2, 0));
-    show(screen_of(1, 7, 105, 2, 0));
-    show(screen_of(4, 8, 105, 2, 0));
-    show(screen_of(7, 7, 105, 2, 0));
-    show(screen_of(6, 7, 105, 2, 0));
-    show(screen_of(7, 4, 105, 2, 0));
-    show(screen_of(1, 1, 105, 2, 0));
-    show(screen_of(63, 64, 105, 2, 0));
-    show(screen_of(63, 65, 105, 2, 0));
-    show(screen_of(4294967294, 4294967295, 105, 2, 0));
+fn slopes(out: &mut impl Write) -> io::Result<()> {
+    show(out, screen_of(0, 7, 105, 2, 0))?;
+    show(out, screen_of(1, 7, 105, 2, 0))?;
+    show(out, screen_of(4, 8, 105, 2, 0))?;
+    show(out, screen_of(7, 7, 105, 2, 0))?;
+    show(out, screen_of(6, 7, 105, 2, 0))?;
+    show(out, screen_of(7, 4, 105, 2, 0))?;
+    show(out, screen_of(1, 1, 105, 2, 0))?;
+    show(out, screen_of(63, 64, 105, 2, 0))?;
+    show(out, screen_of(63, 65, 105, 2, 0))?;
+    show(out, screen_of(4294967294, 4294967295, 105, 2, 0))
 }
 
 // Refusals 2 and 3: n of 0, 1, 4096 and 4097; k of 0, 16 and 17, and k beside n.
-fn cells_and_subscreens() {
-    show(screen_of(4, 7, 0, 1, 0));
-    show(screen_of(4, 7, 1, 1, 0));
-    show(screen_of(63, 64, 4096, 16, 4095));
-    show(screen_of(63, 64, 4097, 16, 4095));
-    show(screen_of(4, 7, 4294967295, 16, 0));
-    show(screen_of(4, 7, 105, 0, 0));
-    show(screen_of(4, 7, 105, 1, 0));
-    show(screen_of(4, 7, 105, 16, 0));
-    show(screen_of(4, 7, 105, 17, 0));
-    show(screen_of(4, 7, 5, 5, 0));
-    show(screen_of(4, 7, 5, 6, 0));
-    show(screen_of(4, 7, 105, 4294967295, 0));
+fn cells_and_subscreens(out: &mut impl Write) -> io::Result<()> {
+    show(out, screen_of(4, 7, 0, 1, 0))?;
+    show(out, screen_of(4, 7, 1, 1, 0))?;
+    show(out, screen_of(63, 64, 4096, 16, 4095))?;
+    show(out, screen_of(63, 64, 4097, 16, 4095))?;
+    show(out, screen_of(4, 7, 4294967295, 16, 0))?;
+    show(out, screen_of(4, 7, 105, 0, 0))?;
+    show(out, screen_of(4, 7, 105, 1, 0))?;
+    show(out, screen_of(4, 7, 105, 16, 0))?;
+    show(out, screen_of(4, 7, 105, 17, 0))?;
+    show(out, screen_of(4, 7, 5, 5, 0))?;
+    show(out, screen_of(4, 7, 5, 6, 0))?;
+    show(out, screen_of(4, 7, 105, 4294967295, 0))
 }
 
 // Refusal 4: g beside n; and n smaller than a.
-fn offsets() {
-    show(screen_of(4, 7, 70, 2, 69));
-    show(screen_of(4, 7, 70, 2, 70));
-    show(screen_of(4, 7, 70, 2, 4294967295));
-    show(screen_of(4, 7, 3, 2, 2));
-    show(screen_of(60, 61, 48, 3, 17));
+fn offsets(out: &mut impl Write) -> io::Result<()> {
+    show(out, screen_of(4, 7, 70, 2, 69))?;
+    show(out, screen_of(4, 7, 70, 2, 70))?;
+    show(out, screen_of(4, 7, 70, 2, 4294967295))?;
+    show(out, screen_of(4, 7, 3, 2, 2))?;
+    show(out, screen_of(60, 61, 48, 3, 17))
 }
 
 // Of several refusals the lowest number is answered.
-fn lowest_first() {
-    show(screen_of(0, 0, 0, 0, 0));
-    show(screen_of(4, 7, 0, 0, 0));
-    show(screen_of(4, 7, 5, 6, 5));
-    show(screen_of(4, 8, 105, 17, 105));
+fn lowest_first(out: &mut impl Write) -> io::Result<()> {
+    show(out, screen_of(0, 0, 0, 0, 0))?;
+    show(out, screen_of(4, 7, 0, 0, 0))?;
+    show(out, screen_of(4, 7, 5, 6, 5))?;
+    show(out, screen_of(4, 8, 105, 17, 105))
 }
 
 // Refusal 5: both coordinates at the sheet's edge, and that refusals of the screen come first; then the
 // cells that the worked examples of motifs name.
-fn places() {
+fn places(out: &mut impl Write) -> io::Result<()> {
     let s = screen_of(4, 7, 105, 2, 0);
-    show_place(s, 0, 0);
-    show_place(s, 65535, 0);
-    show_place(s, 65536, 0);
-    show_place(s, 0, 65535);
-    show_place(s, 0, 65536);
-    show_place(s, 65535, 65535);
-    show_place(s, 4294967295, 4294967295);
-    show_place(screen_of(4, 7, 105, 2, 104), 65535, 65535);
-    show_place(screen_of(4, 7, 70, 2, 70), 65536, 65536);
-    show_place(s, 6, 40);
-    show_place(s, 6, 54);
-    show_place(screen_of(4, 7, 104, 2, 0), 0, 0);
-    show_place(screen_of(4, 7, 104, 2, 0), 5, 12);
+    show_place(out, s, 0, 0)?;
+    show_place(out, s, 65535, 0)?;
+    show_place(out, s, 65536, 0)?;
+    show_place(out, s, 0, 65535)?;
+    show_place(out, s, 0, 65536)?;
+    show_place(out, s, 65535, 65535)?;
+    show_place(out, s, 4294967295, 4294967295)?;
+    show_place(out, screen_of(4, 7, 105, 2, 104), 65535, 65535)?;
+    show_place(out, screen_of(4, 7, 70, 2, 70), 65536, 65536)?;
+    show_place(out, s, 6, 40)?;
+    show_place(out, s, 6, 54)?;
+    show_place(out, screen_of(4, 7, 104, 2, 0), 0, 0)?;
+    show_place(out, screen_of(4, 7, 104, 2, 0), 5, 12)
 }
 
 // Refusal 8: buffers of n - 1, n and n + 1 places, of none, and of n places for a refused screen.
-fn buffers() {
+fn buffers(out: &mut impl Write) -> io::Result<()> {
     let s = screen_of(4, 7, 70, 2, 0);
-    show_filled(s, 69);
-    show_filled(s, 70);
-    show_filled(s, 71);
-    show_filled(s, 0);
-    show_filled(screen_of(4, 7, 70, 2, 70), 70);
-    show_filled(screen_of(4, 7, 70, 2, 70), 0);
-    show_filled(screen_of(4, 7, 70, 2, 69), 70);
-    show_filled(screen_of(60, 61, 48, 3, 17), 48);
-    show_filled(screen_of(1, 2, 1, 1, 0), 1);
-    show_filled(screen_of(4, 7, 3, 1, 2), 4);
+    show_filled(out, s, 69)?;
+    show_filled(out, s, 70)?;
+    show_filled(out, s, 71)?;
+    show_filled(out, s, 0)?;
+    show_filled(out, screen_of(4, 7, 70, 2, 70), 70)?;
+    show_filled(out, screen_of(4, 7, 70, 2, 70), 0)?;
+    show_filled(out, screen_of(4, 7, 70, 2, 69), 70)?;
+    show_filled(out, screen_of(60, 61, 48, 3, 17), 48)?;
+    show_filled(out, screen_of(1, 2, 1, 1, 0), 1)?;
+    show_filled(out, screen_of(4, 7, 3, 1, 2), 4)
 }
 
-fn replacements() {
-    listed();
-    limits();
-    many_bricks();
-    refused_screens();
+fn replacements(out: &mut impl Write) -> io::Result<()> {
+    listed(out)?;
+    limits(out)?;
+    many_bricks(out)?;
+    refused_screens(out)
 }
 
 // Rule 12.18; and that the screen which was handed back is as good as before.
-fn listed() {
+fn listed(out: &mut impl Write) -> io::Result<()> {
     let mut s = screen_of(4, 7, 105, 2, 40);
-    show(s);
-    s = with_cells(s, 70);
-    s = with_cells(s, 1);
-    s = with_cells(s, 40);
-    s = with_offset(s, 70);
-    s = with_subscreens(s, 17);
-    show(s);
+    show(out, s)?;
+    s = with_cells(out, s, 70)?;
+    s = with_cells(out, s, 1)?;
+    s = with_cells(out, s, 40)?;
+    s = with_offset(out, s, 70)?;
+    s = with_subscreens(out, s, 17)?;
+    show(out, s)
 }
 
 // Both sides of each limit, and the same number again.
-fn limits() {
+fn limits(out: &mut impl Write) -> io::Result<()> {
     let mut s = screen_of(63, 64, 105, 2, 0);
-    show(s);
-    s = with_cells(s, 0);
-    s = with_cells(s, 4097);
-    s = with_cells(s, 4294967295);
-    s = with_cells(s, 4096);
-    s = with_offset(s, 4096);
-    s = with_offset(s, 4294967295);
-    s = with_offset(s, 4095);
-    s = with_subscreens(s, 0);
-    s = with_subscreens(s, 17);
-    s = with_subscreens(s, 4294967295);
-    s = with_subscreens(s, 16);
-    s = with_cells(s, 4095);
-    s = with_offset(s, 15);
-    s = with_cells(s, 15);
-    s = with_cells(s, 16);
-    s = with_cells(s, 16);
-    s = with_offset(s, 0);
-    s = with_cells(s, 15);
-    s = with_subscreens(s, 1);
-    s = with_cells(s, 1);
-    s = with_offset(s, 1);
-    s = with_subscreens(s, 2);
-    show(s);
+    show(out, s)?;
+    s = with_cells(out, s, 0)?;
+    s = with_cells(out, s, 4097)?;
+    s = with_cells(out, s, 4294967295)?;
+    s = with_cells(out, s, 4096)?;
+    s = with_offset(out, s, 4096)?;
+    s = with_offset(out, s, 4294967295)?;
+    s = with_offset(out, s, 4095)?;
+    s = with_subscreens(out, s, 0)?;
+    s = with_subscreens(out, s, 17)?;
+    s = with_subscreens(out, s, 4294967295)?;
+    s = with_subscreens(out, s, 16)?;
+    s = with_cells(out, s, 4095)?;
+    s = with_offset(out, s, 15)?;
+    s = with_cells(out, s, 15)?;
+    s = with_cells(out, s, 16)?;
+    s = with_cells(out, s, 16)?;
+    s = with_offset(out, s, 0)?;
+    s = with_cells(out, s, 15)?;
+    s = with_subscreens(out, s, 1)?;
+    s = with_cells(out, s, 1)?;
+    s = with_offset(out, s, 1)?;
+    s = with_subscreens(out, s, 2)?;
+    show(out, s)
 }
 
 // Cell counts that share much, little and nothing with a.
-fn many_bricks() {
+fn many_bricks(out: &mut impl Write) -> io::Result<()> {
     let mut s = screen_of(60, 61, 48, 3, 17);
-    show(s);
-    s = with_cells(s, 60);
-    s = with_cells(s, 61);
-    s = with_subscreens(s, 5);
-    s = with_cells(s, 90);
-    s = with_offset(s, 89);
-    s = with_cells(s, 89);
-    s = with_cells(s, 3600);
-    s = with_offset(s, 3599);
-    s = with_cells(s, 4095);
-    show(s);
+    show(out, s)?;
+    s = with_cells(out, s, 60)?;
+    s = with_cells(out, s, 61)?;
+    s = with_subscreens(out, s, 5)?;
+    s = with_cells(out, s, 90)?;
+    s = with_offset(out, s, 89)?;
+    s = with_cells(out, s, 89)?;
+    s = with_cells(out, s, 3600)?;
+    s = with_offset(out, s, 3599)?;
+    s = with_cells(out, s, 4095)?;
+    show(out, s)
 }
 
 // Screens of zeros, and others that a replacement would put right: all eight numbers come back.
-fn refused_screens() {
+fn refused_screens(out: &mut impl Write) -> io::Result<()> {
     let zeros = screen_of(0, 0, 0, 0, 0);
-    show(zeros);
-    with_cells(zeros, 70);
+    show(out, zeros)?;
+    with_cells(out, zeros, 70)?;
     let cells = record_of(4, 7, 0, 2, 0, 35, 2, 14);
-    show(cells);
-    with_cells(cells, 70);
+    show(out, cells)?;
+    with_cells(out, cells, 70)?;
     let subscreens = record_of(4, 7, 70, 17, 0, 35, 2, 14);
-    show(subscreens);
-    with_subscreens(subscreens, 2);
-    with_cells(subscreens, 0);
+    show(out, subscreens)?;
+    with_subscreens(out, subscreens, 2)?;
+    with_cells(out, subscreens, 0)?;
     let offset = record_of(4, 7, 70, 2, 70, 35, 2, 14);
-    show(offset);
-    with_offset(offset, 0);
-    with_cells(offset, 105);
-    with_subscreens(offset, 17);
+    show(out, offset)?;
+    with_offset(out, offset, 0)?;
+    with_cells(out, offset, 105)?;
+    with_subscreens(out, offset, 17)?;
+    Ok(())
 }
 
 // Refusal 15: each stored number wrong by itself, among them those of rule 12.19; several wrong; and
 // refusals 1 to 4, which come first.
-fn stored() {
-    wrong_columns();
-    wrong_rows();
-    wrong_shift();
-    wrong_together();
-    lowest_of_stored();
-    stored_in_calls();
+fn stored(out: &mut impl Write) -> io::Result<()> {
+    wrong_columns(out)?;
+    wrong_rows(out)?;
+    wrong_shift(out)?;
+    wrong_together(out)?;
+    lowest_of_stored(out)?;
+    stored_in_calls(out)
 }
 
 // 2147483683 times 2 is 70 in 32 bits.
-fn wrong_columns() {
-    show_70(35, 2, 14);
-    show_70(34, 2, 14);
-    show_70(36, 2, 14);
-    show_70(70, 2, 14);
-    show_70(0, 2, 14);
-    show_70(2147483683, 2, 14);
+fn wrong_columns(out: &mut impl Write) -> io::Result<()> {
+    show_70(out, 35, 2, 14)?;
+    show_70(out, 34, 2, 14)?;
+    show_70(out, 36, 2, 14)?;
+    show_70(out, 70, 2, 14)?;
+    show_70(out, 0, 2, 14)?;
+    show_70(out, 2147483683, 2, 14)
 }
 
-fn wrong_rows() {
-    show_70(35, 1, 14);
-    show_70(35, 3, 14);
-    show_70(35, 0, 14);
-    show_70(35, 4294967295, 14);
+fn wrong_rows(out: &mut impl Write) -> io::Result<()> {
+    show_70(out, 35, 1, 14)?;
+    show_70(out, 35, 3, 14)?;
+    show_70(out, 35, 0, 14)?;
+    show_70(out, 35, 4294967295, 14)
 }
 
 // 14 is true: the numbers beside it; 21, which is 14 to the left; 49, which fits the equation of the shift too;
 // 0; and a number that times 4 is 56 in 32 bits, as 14 times 4 is.
-fn wrong_shift() {
-    show_70(35, 2, 13);
-    show_70(35, 2, 15);
-    show_70(35, 2, 21);
-    show_70(35, 2, 49);
-    show_70(35, 2, 0);
-    show_70(35, 2, 1073741838);
-    show_stored(record_of(1, 2, 1, 1, 0, 1, 1, 0));
-    show_stored(record_of(1, 2, 1, 1, 0, 1, 1, 1));
+fn wrong_shift(out: &mut impl Write) -> io::Result<()> {
+    show_70(out, 35, 2, 13)?;
+    show_70(out, 35, 2, 15)?;
+    show_70(out, 35, 2, 21)?;
+    show_70(out, 35, 2, 49)?;
+    show_70(out, 35, 2, 0)?;
+    show_70(out, 35, 2, 1073741838)?;
+    show_stored(out, record_of(1, 2, 1, 1, 0, 1, 1, 0))?;
+    show_stored(out, record_of(1, 2, 1, 1, 0, 1, 1, 1))
 }
 
 // Columns and rows exchanged; other rectangles of 70 cells, whose shift is 0 by rule 3.3's equation; the brick
 // of another cell count; and none.
-fn wrong_together() {
-    show_70(2, 35, 14);
-    show_70(7, 10, 0);
-    show_70(1, 70, 0);
-    show_70(105, 1, 77);
-    show_70(0, 0, 0);
-    show_70(4294967295, 4294967295, 4294967295);
+fn wrong_together(out: &mut impl Write) -> io::Result<()> {
+    show_70(out, 2, 35, 14)?;
+    show_70(out, 7, 10, 0)?;
+    show_70(out, 1, 70, 0)?;
+    show_70(out, 105, 1, 77)?;
+    show_70(out, 0, 0, 0)?;
+    show_70(out, 4294967295, 4294967295, 4294967295)?;
     let of_70 = record_of(4, 7, 105, 2, 0, 35, 2, 14);
-    show_stored(of_70);
-    with_cells(of_70, 70);
+    show_stored(out, of_70)?;
+    with_cells(out, of_70, 70)?;
+    Ok(())
 }
 
-fn lowest_of_stored() {
-    show_stored(record_of(4, 8, 70, 2, 0, 35, 2, 21));
-    show_stored(record_of(4, 7, 0, 2, 0, 35, 2, 21));
-    show_stored(record_of(4, 7, 70, 17, 0, 35, 2, 21));
-    show_stored(record_of(4, 7, 70, 2, 70, 35, 2, 21));
+fn lowest_of_stored(out: &mut impl Write) -> io::Result<()> {
+    show_stored(out, record_of(4, 8, 70, 2, 0, 35, 2, 21))?;
+    show_stored(out, record_of(4, 7, 0, 2, 0, 35, 2, 21))?;
+    show_stored(out, record_of(4, 7, 70, 17, 0, 35, 2, 21))?;
+    show_stored(out, record_of(4, 7, 70, 2, 70, 35, 2, 21))
 }
 
 // 15 before 5 and 8.
-fn stored_in_calls() {
+fn stored_in_calls(out: &mut impl Write) -> io::Result<()> {
     let s = record_of(4, 7, 70, 2, 0, 35, 2, 21);
-    show_stored(s);
-    show_place(s, 65535, 65535);
-    show_place(s, 65536, 0);
-    show_place(s, 0, 65536);
-    show_filled(s, 70);
-    show_filled(s, 69);
-    show_filled(s, 0);
+    show_stored(out, s)?;
+    show_place(out, s, 65535, 65535)?;
+    show_place(out, s, 65536, 0)?;
+    show_place(out, s, 0, 65536)?;
+    show_filled(out, s, 70)?;
+    show_filled(out, s, 69)?;
+    show_filled(out, s, 0)
 }
 
 // Rule 12.22; the farthest corner and those beside 32 bits; screens of few cells and of many; and screens that
 // are refused.
-fn corners() {
+fn corners(out: &mut impl Write) -> io::Result<()> {
     let mut s = screen_of(4, 7, 105, 2, 40);
-    show(s);
-    s = seen_from(s, 100000, 70000);
-    show(s);
-    s = seen_from(s, 0, 0);
-    s = seen_from(s, 1, 0);
-    s = seen_from(s, 0, 1);
-    s = seen_from(s, 4294967295, 4294967296);
-    s = seen_from(s, 18446744073709551615, 0);
-    s = seen_from(s, 0, 18446744073709551615);
-    s = seen_from(s, 18446744073709551615, 18446744073709551615);
-    show(s);
-    seen_from(screen_of(1, 2, 1, 1, 0), 18446744073709551615, 1);
-    seen_from(screen_of(4, 7, 3, 1, 2), 65536, 65537);
+    show(out, s)?;
+    s = seen_from(out, s, 100000, 70000)?;
+    show(out, s)?;
+    s = seen_from(out, s, 0, 0)?;
+    s = seen_from(out, s, 1, 0)?;
+    s = seen_from(out, s, 0, 1)?;
+    s = seen_from(out, s, 4294967295, 4294967296)?;
+    s = seen_from(out, s, 18446744073709551615, 0)?;
+    s = seen_from(out, s, 0, 18446744073709551615)?;
+    s = seen_from(out, s, 18446744073709551615, 18446744073709551615)?;
+    show(out, s)?;
+    seen_from(out, screen_of(1, 2, 1, 1, 0), 18446744073709551615, 1)?;
+    seen_from(out, screen_of(4, 7, 3, 1, 2), 65536, 65537)?;
     seen_from(
+        out,
         screen_of(63, 64, 4096, 16, 4095),
         18446744073709551614,
         9223372036854775807,
-    );
+    )?;
     seen_from(
+        out,
         screen_of(63, 64, 4095, 16, 0),
         18446744073709551615,
         18446744073709551615,
-    );
-    unmoved();
+    )?;
+    unmoved(out)
 }
 
 // Refusals 1 to 4 and 15: all eight numbers come back.
-fn unmoved() {
-    seen_from(record_of(4, 8, 70, 2, 0, 35, 2, 14), 1, 1);
-    seen_from(record_of(4, 7, 0, 2, 0, 35, 2, 14), 1, 1);
-    seen_from(record_of(4, 7, 70, 17, 0, 35, 2, 14), 1, 1);
-    seen_from(record_of(4, 7, 70, 2, 70, 35, 2, 14), 1, 1);
-    seen_from(record_of(4, 7, 70, 2, 0, 35, 2, 21), 1, 1);
+fn unmoved(out: &mut impl Write) -> io::Result<()> {
+    seen_from(out, record_of(4, 8, 70, 2, 0, 35, 2, 14), 1, 1)?;
+    seen_from(out, record_of(4, 7, 0, 2, 0, 35, 2, 14), 1, 1)?;
+    seen_from(out, record_of(4, 7, 70, 17, 0, 35, 2, 14), 1, 1)?;
+    seen_from(out, record_of(4, 7, 70, 2, 70, 35, 2, 14), 1, 1)?;
+    seen_from(out, record_of(4, 7, 70, 2, 0, 35, 2, 21), 1, 1)?;
+    Ok(())
 }
 
 // A screen that stores the numbers of its brick or, where 1 to 4 refuse it, zeros.
@@ -372,147 +380,128 @@ fn record_of(
 }
 
 // Replaces the offset, and answers the new screen or, refused, the one that it got.
-fn with_offset(s: Screen, g: u32) -> Screen {
-    show_replaced(s, b"g ", g, screen::replace_offset(s, g))
+fn with_offset(out: &mut impl Write, s: Screen, g: u32) -> io::Result<Screen> {
+    show_replaced(out, s, "g ", g, screen::replace_offset(s, g))
 }
 
-fn with_subscreens(s: Screen, k: u32) -> Screen {
-    show_replaced(s, b"k ", k, screen::replace_subscreens(s, k))
+fn with_subscreens(out: &mut impl Write, s: Screen, k: u32) -> io::Result<Screen> {
+    show_replaced(out, s, "k ", k, screen::replace_subscreens(s, k))
 }
 
-fn with_cells(s: Screen, n: u32) -> Screen {
-    show_replaced(s, b"n ", n, screen::replace_cells(s, n))
+fn with_cells(out: &mut impl Write, s: Screen, n: u32) -> io::Result<Screen> {
+    show_replaced(out, s, "n ", n, screen::replace_cells(s, n))
 }
 
-fn show_replaced(s: Screen, name: &[u8], by: u32, answer: Result<Screen, Refusal>) -> Screen {
-    io::write_all(1, name);
-    number(by);
-    show_answer(s, answer)
+fn show_replaced(
+    out: &mut impl Write,
+    s: Screen,
+    name: &str,
+    by: u32,
+    answer: Result<Screen, Refusal>,
+) -> io::Result<Screen> {
+    writeln!(out, "{name}{by}: {}", Answer(answer, s))?;
+    Ok(answer.unwrap_or(s))
 }
 
-// The screen as it is seen from a corner.
-fn seen_from(s: Screen, x: u64, y: u64) -> Screen {
-    io::print_decimal(1, x);
-    io::write_all(1, b" ");
-    io::print_decimal(1, y);
-    show_answer(s, screen::moved(s, x, y))
-}
-
-// Ends a line with what was made of a screen, and answers the screen to go on with.
-fn show_answer(s: Screen, answer: Result<Screen, Refusal>) -> Screen {
-    io::write_all(1, b": ");
-    show_made(s, answer);
-    io::write_all(1, b"\n");
-    answer.unwrap_or(s)
-}
-
-// The refusal, and the new screen or another.
-fn show_made(other: Screen, answer: Result<Screen, Refusal>) {
-    let s = answer.unwrap_or(other);
-    number(number_of(answer));
-    io::write_all(1, b" ");
-    show_numbers(s);
-    spaced(s.columns);
-    spaced(s.rows);
-    spaced(s.shift);
+// The screen as it is seen from a corner or, refused, the one that was given.
+fn seen_from(out: &mut impl Write, s: Screen, x: u64, y: u64) -> io::Result<Screen> {
+    let answer = screen::moved(s, x, y);
+    writeln!(out, "{x} {y}: {}", Answer(answer, s))?;
+    Ok(answer.unwrap_or(s))
 }
 
 // A screen by what it stores, and a replacement of each number; that of n would be refused as 2.
-fn show_stored(s: Screen) {
-    io::write_all(1, b"# stored ");
-    number(s.columns);
-    spaced(s.rows);
-    spaced(s.shift);
-    io::write_all(1, b"\n");
-    show(s);
-    with_offset(s, 0);
-    with_subscreens(s, 1);
-    with_cells(s, 0);
+fn show_stored(out: &mut impl Write, s: Screen) -> io::Result<()> {
+    writeln!(out, "# stored {} {} {}", s.columns, s.rows, s.shift)?;
+    show(out, s)?;
+    with_offset(out, s, 0)?;
+    with_subscreens(out, s, 1)?;
+    with_cells(out, s, 0)?;
+    Ok(())
 }
 
 // The same of the screen of 70 cells.
-fn show_70(columns: u32, rows: u32, shift: u32) {
-    show_stored(record_of(4, 7, 70, 2, 0, columns, rows, shift));
+fn show_70(out: &mut impl Write, columns: u32, rows: u32, shift: u32) -> io::Result<()> {
+    show_stored(out, record_of(4, 7, 70, 2, 0, columns, rows, shift))
 }
 
-fn show(s: Screen) {
-    show_numbers(s);
-    io::write_all(1, b": ");
-    number(number_of(screen::check(s)));
+fn show(out: &mut impl Write, s: Screen) -> io::Result<()> {
     let answer = screen::brick_of(s);
     let brick = answer.unwrap_or(NO_BRICK);
-    io::write_all(1, b"; ");
-    number(number_of(answer));
-    spaced(brick.columns);
-    spaced(brick.rows);
-    spaced(brick.shift);
-    io::write_all(1, b"; ");
-    show_phase(s, 0, 1);
-    io::write_all(1, b", ");
-    show_phase(s, 3, 2);
-    io::write_all(1, b"; ");
-    show_made(NO_SCREEN, screen::make(s.a, s.b, s.n, s.k, s.g));
-    io::write_all(1, b"\n");
+    write!(out, "{}: {}; ", Numbers(s), number_of(screen::check(s)))?;
+    write!(
+        out,
+        "{} {} {} {}; ",
+        number_of(answer),
+        brick.columns,
+        brick.rows,
+        brick.shift
+    )?;
+    write!(out, "{}, {}; ", Place(s, 0, 1), Place(s, 3, 2))?;
+    let made = screen::make(s.a, s.b, s.n, s.k, s.g);
+    writeln!(out, "{}", Answer(made, NO_SCREEN))
 }
 
-fn show_place(s: Screen, x: u32, y: u32) {
-    show_numbers(s);
-    io::write_all(1, b", ");
-    number(x);
-    spaced(y);
-    io::write_all(1, b": ");
-    show_phase(s, x, y);
-    io::write_all(1, b"\n");
-}
-
-fn show_phase(s: Screen, x: u32, y: u32) {
-    let phase = screen::phase_at(s, x, y);
-    number(number_of(phase));
-    spaced(phase.unwrap_or(0));
+fn show_place(out: &mut impl Write, s: Screen, x: u32, y: u32) -> io::Result<()> {
+    writeln!(out, "{}, {x} {y}: {}", Numbers(s), Place(s, x, y))
 }
 
 // Lends the first places of a buffer of 72, and shows the whole buffer, what was not lent included.
-fn show_filled(s: Screen, places: usize) {
+fn show_filled(out: &mut impl Write, s: Screen, places: usize) -> io::Result<()> {
     let mut buffer = [65535u16; 72];
-    let answer = fill_first(s, &mut buffer, places);
-    show_numbers(s);
-    io::write_all(1, b", ");
-    io::print_decimal(1, places as u64);
-    io::write_all(1, b": ");
-    number(number_of(answer));
-    io::write_all(1, b";");
-    show_all(&buffer);
-    io::write_all(1, b"\n");
+    let refusal = number_of(fill_first(s, &mut buffer, places));
+    write!(out, "{}, {places}: {refusal};", Numbers(s))?;
+    for phase in buffer {
+        write!(out, " {phase}")?;
+    }
+    writeln!(out)
 }
 
 // Fills the brick of s in the first places of the buffer, or in all of it where it has no more.
 fn fill_first(s: Screen, buffer: &mut [u16], places: usize) -> Result<(), Refusal> {
-    if buffer.len() <= places {
-        screen::fill_brick(s, buffer)
-    } else {
-        screen::fill_brick(s, &mut buffer[0..places])
+    match buffer.get_mut(..places) {
+        Some(first) => screen::fill_brick(s, first),
+        None => screen::fill_brick(s, buffer),
     }
 }
 
-fn show_all(buffer: &[u16]) {
-    for phase in buffer {
-        spaced(u32::from(*phase));
+// The five numbers of a screen.
+#[derive(Clone, Copy)]
+struct Numbers(Screen);
+
+impl fmt::Display for Numbers {
+    fn fmt<W: fmt::Write>(&self, f: &mut fmt::Formatter<W>) -> fmt::Result {
+        let s = self.0;
+        write!(f, "{} {} {} {} {}", s.a, s.b, s.n, s.k, s.g)
     }
 }
 
-fn show_numbers(s: Screen) {
-    number(s.a);
-    spaced(s.b);
-    spaced(s.n);
-    spaced(s.k);
-    spaced(s.g);
+// What a call that hands back a screen answers: its refusal, and the new screen or another.
+#[derive(Clone, Copy)]
+struct Answer(Result<Screen, Refusal>, Screen);
+
+impl fmt::Display for Answer {
+    fn fmt<W: fmt::Write>(&self, f: &mut fmt::Formatter<W>) -> fmt::Result {
+        let s = self.0.unwrap_or(self.1);
+        write!(
+            f,
+            "{} {} {} {} {}",
+            number_of(self.0),
+            Numbers(s),
+            s.columns,
+            s.rows,
+            s.shift
+        )
+    }
 }
 
-fn spaced(n: u32) {
-    io::write_all(1, b" ");
-    number(n);
-}
+// The refusal of a place of a screen, and its phase.
+#[derive(Clone, Copy)]
+struct Place(Screen, u32, u32);
 
-fn number(n: u32) {
-    io::print_decimal(1, u64::from(n));
+impl fmt::Display for Place {
+    fn fmt<W: fmt::Write>(&self, f: &mut fmt::Formatter<W>) -> fmt::Result {
+        let phase = screen::phase_at(self.0, self.1, self.2);
+        write!(f, "{} {}", number_of(phase), phase.unwrap_or(0))
+    }
 }
