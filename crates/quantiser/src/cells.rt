@@ -1,8 +1,8 @@
 // What a cell's colorant needs: levels, once a colour, and a threshold. A renderer has the thresholds of all
 // phases, once a call, and so divides for no cell; a lone phase has its own.
-ghost use Rattle.std.specs.Prelude.{◌≡◌, ◌++◌, ℕ, suc, ◌+◌, ◌-◌, ◌*◌, ◌≤◌, ◌<◌, length, get_or, drop, count_by, nat_lt};
+ghost use Rattle.std.specs.Prelude.{◌≡◌, ◌++◌, ℕ, suc, ◌+◌, ◌-◌, ◌*◌, ◌≤◌, ◌<◌, length, get_or, drop, sum_by, nat_lt};
 ghost use Rattle.arith.specs.Refusal.{number_of};
-ghost use Rattle.arith.specs.Sum.{sum_below};
+ghost use Rattle.arith.specs.Sum.{sum_below, indicator};
 ghost use Rattle.arith.specs.Run.{upto};
 ghost use Rattle.screen.specs.Screens.{Admitted};
 ghost use Rattle.screen.specs.Brick.{buffer_refusal};
@@ -109,15 +109,18 @@ fn rank_subscreen(k: u32, subscreen: u32, out: &mut [u16])
 }
 
 // The colorant of a cell: how many of the first seven levels its threshold, scaled as they are, is above.
+#[tactic(auto, using(crate::proofs::ThresholdLaws::rank_added))]
 pub fn colorant_of(levels: [u64; 8], bar: u64) -> u8
     ensures { result ≡ rank levels bar }
 {
-    above(&levels[..7], bar) as u8
+    above(&levels[..7], bar)
 }
 
-// How many levels a number is above.
-fn above(levels: &[u64], bar: u64) -> usize
-    ensures { result ≡ count_by (λ level. nat_lt level bar) levels.now }
+// How many levels a number is above. The tests are added up, of which the compiler makes code without
+// branches; of `filter` and `count` it makes a loop that takes more than twice the time.
+fn above(levels: &[u64], bar: u64) -> u8
+    requires { length levels.now ≤ 7 }
+    ensures { result ≡ sum_by (λ level. indicator (nat_lt level bar)) levels.now }
 {
-    levels.iter().filter(|&&level| level < bar).count()
+    levels.iter().map(|&level| u8::from(level < bar)).sum()
 }
