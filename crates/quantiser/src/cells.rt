@@ -18,7 +18,7 @@ pub fn levels(n: u32, sep: Separation, inks: Inks) -> [u64; 8]
 {
     let weights = separation::weights(sep, inks);
     let scale = separation::scale(sep);
-    raised(weights, 2 * n as u64, scale)
+    raised(weights, 2 * u64::from(n), scale)
 }
 
 // The running sums of the weights, each times a factor and with the scale added.
@@ -26,13 +26,15 @@ fn raised(weights: [u64; 8], factor: u64, scale: u64) -> [u64; 8]
     requires { ((j : ℕ) → j ≤ 8 → sum_below j (λ i. get_or weights i 0) ≤ scale) × (factor ≤ 8589934590) × (scale ≤ 16581375) }
     ensures { result ≡ upto (λ j. factor * sum_below (suc j) (λ i. get_or weights i 0) + scale) 8 }
 {
-    let mut of = weights;
     let mut sum = 0;
-    for level in of.iter_mut() {
-        sum += *level;
-        *level = factor * sum + scale;
-    }
-    of
+    weights.map(
+        |weight|
+            requires { (sum + weight ≤ scale) × (factor ≤ 8589934590) × (scale ≤ 16581375) }
+        {
+            sum += weight;
+            factor * sum + scale
+        },
+    )
 }
 
 // Writes the thresholds of a screen's phases to the first n places of a lent table; refused, writes nothing.
