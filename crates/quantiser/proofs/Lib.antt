@@ -5,3 +5,4 @@ mod SubscreenLaws
 mod ThresholdLaws
 mod ThresholdLoop
 mod LevelLaws
+mod MapLaws

@@ -3,13 +3,13 @@
 -- Assumes nothing.
 use Prim.Native.Nat.{ℕ, zero, suc, ◌+◌, ◌-◌, ◌*◌, ◌/◌, ◌%◌, ◌≤◌, ◌<◌}
 use mathlib.Core.Path.{◌≡◌, refl, sym, ap, ap₂, ◌∙◌}
-use mathlib.Core.Bool.{Bool, true, false, not}
+use mathlib.Core.Bool.{true, not}
 use native.Mathlib.Nat.{le-div_iff_mul-le, le_trans}
 use native.Mathlib.Decide.{dec_lt, dec_le, ℕ_discrete}
 use native.Mathlib.Numerals.{add-one}
 use native.Mathlib.Omega.{arith}
-use Rattle.std.specs.Prelude.{count_by, nat_lt}
-use Rattle.std.proofs.lemmas.List.Sums.{count_by_more_yes, count_by_more_no}
+use Rattle.std.specs.Prelude.{sum_by, nat_lt}
+use Rattle.std.proofs.lemmas.List.Sums.{sum_by_more}
 use mathlib.Core.List.{List}
 use lib.ListN.{length, get_or, take}
 use lib.Dec.{eqb, ltb, leb}
@@ -75,21 +75,16 @@ pub rank_below : (levels : List ℕ) (bar : ℕ) → rank levels bar < 8
 unfolding rank
 rank_below levels bar = omega (arith, sum_bounded 7 (λ j. indicator (ltb (get_or levels j 0) bar)) (λ j l. indicator_le (ltb (get_or levels j 0) bar)))
 
--- a sum of tests of the first elements counts those that pass
-counted_first : (passes : ℕ → Bool) (list : List ℕ) (n : ℕ) → n ≤ length list → count_by passes (take n list) ≡ sum_below n (λ j. indicator (passes (get_or list j 0)))
+-- the sum of f at the first elements of a list, by their places
+sum_first : (f : ℕ → ℕ) (list : List ℕ) (n : ℕ) → n ≤ length list → sum_by f (take n list) ≡ sum_below n (λ j. f (get_or list j 0))
 unfolding sum_below
-counted_first passes list zero h = refl
-counted_first passes list (suc n) h = go (passes (get_or list n 0)) refl (counted_first passes list n (omega arith))
-  where
-    go : (t : Bool) → passes (get_or list n 0) ≡ t → count_by passes (take n list) ≡ sum_below n (λ j. indicator (passes (get_or list j 0)))
-        → count_by passes (take (suc n) list) ≡ sum_below n (λ j. indicator (passes (get_or list j 0))) + indicator (passes (get_or list n 0))
-    go true e before = rw (e, ← add-one n, count_by_more_yes passes list n 0 h e, before)
-    go false e before = rw (e, ← add-one n, count_by_more_no passes list n 0 h e, before) (omega arith)
+sum_first f list zero h = refl
+sum_first f list (suc n) h = rw (← add-one n, sum_by_more f list n 0 h, sum_first f list n (omega arith))
 
 -- a rank is how many of the first seven levels are below a number
-pub rank_counted : (levels : List ℕ) (bar : ℕ) → 7 ≤ length levels → count_by (λ level. nat_lt level bar) (take 7 levels) ≡ rank levels bar
+pub rank_added : (levels : List ℕ) (bar : ℕ) → 7 ≤ length levels → sum_by (λ level. indicator (nat_lt level bar)) (take 7 levels) ≡ rank levels bar
 unfolding rank
-rank_counted levels bar h = counted_first (λ level. nat_lt level bar) levels 7 h
+rank_added levels bar h = sum_first (λ level. indicator (nat_lt level bar)) levels 7 h
 
 -- no level is below 0
 pub rank_none : (levels : List ℕ) → rank levels 0 ≡ 0

@@ -1,8 +1,8 @@
 // What a cell's colorant needs: levels, once a colour, and a threshold. A renderer has the thresholds of all
 // phases, once a call, and so divides for no cell; a lone phase has its own.
-ghost use Rattle.std.specs.Prelude.{◌≡◌, ◌++◌, ℕ, suc, ◌+◌, ◌-◌, ◌*◌, ◌≤◌, ◌<◌, length, get_or, drop, count_by, nat_lt};
+ghost use Rattle.std.specs.Prelude.{◌≡◌, ◌++◌, ℕ, suc, ◌+◌, ◌-◌, ◌*◌, ◌≤◌, ◌<◌, length, get_or, drop, sum_by, nat_lt};
 ghost use Rattle.arith.specs.Refusal.{number_of};
-ghost use Rattle.arith.specs.Sum.{sum_below};
+ghost use Rattle.arith.specs.Sum.{sum_below, indicator};
 ghost use Rattle.arith.specs.Run.{upto};
 ghost use Rattle.screen.specs.Screens.{Admitted};
 ghost use Rattle.screen.specs.Brick.{buffer_refusal};
@@ -18,7 +18,7 @@ pub fn levels(n: u32, sep: Separation, inks: Inks) -> [u64; 8]
 {
     let weights = separation::weights(sep, inks);
     let scale = separation::scale(sep);
-    raised(weights, 2 * n as u64, scale)
+    raised(weights, 2 * u64::from(n), scale)
 }
 
 // The running sums of the weights, each times a factor and with the scale added.
@@ -26,13 +26,15 @@ fn raised(weights: [u64; 8], factor: u64, scale: u64) -> [u64; 8]
     requires { ((j : ℕ) → j ≤ 8 → sum_below j (λ i. get_or weights i 0) ≤ scale) × (factor ≤ 8589934590) × (scale ≤ 16581375) }
     ensures { result ≡ upto (λ j. factor * sum_below (suc j) (λ i. get_or weights i 0) + scale) 8 }
 {
-    let mut of = weights;
     let mut sum = 0;
-    for level in of.iter_mut() {
-        sum += *level;
-        *level = factor * sum + scale;
-    }
-    of
+    weights.map(
+        |weight|
+            requires { (sum + weight ≤ scale) × (factor ≤ 8589934590) × (scale ≤ 16581375) }
+        {
+            sum += weight;
+            factor * sum + scale
+        },
+    )
 }
 
 // Writes the thresholds of a screen's phases to the first n places of a lent table; refused, writes nothing.
@@ -109,15 +111,18 @@ fn rank_subscreen(k: u32, subscreen: u32, out: &mut [u16])
 }
 
 // The colorant of a cell: how many of the first seven levels its threshold, scaled as they are, is above.
+#[tactic(auto, using(crate::proofs::ThresholdLaws::rank_added))]
 pub fn colorant_of(levels: [u64; 8], bar: u64) -> u8
     ensures { result ≡ rank levels bar }
 {
-    above(&levels[..7], bar) as u8
+    above(&levels[..7], bar)
 }
 
-// How many levels a number is above.
-fn above(levels: &[u64], bar: u64) -> usize
-    ensures { result ≡ count_by (λ level. nat_lt level bar) levels.now }
+// How many levels a number is above. The tests are added up, of which the compiler makes code without
+// branches; of `filter` and `count` it makes a loop that takes more than twice the time.
+fn above(levels: &[u64], bar: u64) -> u8
+    requires { length levels.now ≤ 7 }
+    ensures { result ≡ sum_by (λ level. indicator (nat_lt level bar)) levels.now }
 {
-    levels.iter().filter(|&&level| level < bar).count()
+    levels.iter().map(|&level| u8::from(level < bar)).sum()
 }

@@ -33,14 +33,17 @@ fn differences(levels: [u64; 8], sep: Separation) -> [u32; 8]
     requires { ((j : ℕ) → j < 8 → get_or levels j 0 / (2 * scale_of sep) ≤ 4294967295) × ((j : ℕ) → j < 8 → before (λ i. get_or levels i 0 / (2 * scale_of sep)) j ≤ get_or levels j 0 / (2 * scale_of sep)) }
     ensures { result ≡ upto (λ j. get_or levels j 0 / (2 * scale_of sep) - before (λ i. get_or levels i 0 / (2 * scale_of sep)) j) 8 }
 {
-    let mut of = [0u32; 8];
     let mut last = 0;
-    for j in 0..8 {
-        let sum = running_sum(levels[j], sep);
-        of[j] = (sum - last) as u32;
-        last = sum;
-    }
-    of
+    levels.map(
+        |level|
+            requires { (last ≤ level / (2 * scale_of sep)) × (level / (2 * scale_of sep) ≤ 4294967295) }
+        {
+            let sum = running_sum(level, sep);
+            let rise = (sum - last) as u32;
+            last = sum;
+            rise
+        },
+    )
 }
 
 // The running sum of a level: the level divided by 2 * D, which for Demichel is 2 * 255 * 255 * 255. Each

@@ -16,4 +16,4 @@ raised-requires c =
 pub returns : goal.returns
 returns c =
     let start = c.args in
-    c.raised.ensures ∙ rw (c.weights-weights.ensures, c.scale-scale.ensures) (levels_are start.sep start.inks start.n)
+    c.raised.ensures ∙ rw (c.from.ensures, c.weights-weights.ensures, c.scale-scale.ensures) (levels_are start.sep start.inks start.n)

@@ -1,23 +1,34 @@
 -- `quantiser::counting::differences` meets its contract: `last` is the quotient before. Assumes nothing.
-use Prim.Native.Nat.{ℕ, ◌-◌}
-use mathlib.Core.Path.{refl, ap₂, ◌∙◌}
-use native.Mathlib.Numerals.{add-one}
+use Prim.Native.Nat.{ℕ, ◌-◌, ◌*◌, ◌/◌, ◌<◌}
+use mathlib.Core.Path.{◌≡◌, refl}
 use native.Mathlib.Omega.{arith}
-use Rattle.arith.proofs.RunLaws.{filling_start, filling_store, filling_whole}
+use Rattle.std.proofs.Common.{rules}
+use lib.ListN.{get_or}
+use Rattle.arith.specs.Rounding.{before}
+use Rattle.separation.specs.Weights.{scale_of}
+use Rattle.quantiser.proofs.MapLaws.{served, mapped}
 use Rattle.quantiser.proofs.counting.differences.Goals as goal
 
-pub loop-j-init : goal.loop-j-init
-loop-j-init c = (filling_start _ _, refl)
-
-pub overflow_sub-of : goal.overflow_sub-of
-overflow_sub-of c = rw (c.running_sum-sum.ensures, c.loop-j.invariant.1) (c.requires.1 c.loop-j.j c.loop-j-test.true)
-
-pub overflow_cast-of : goal.overflow_cast-of
-overflow_cast-of c = omega (arith, c.running_sum-sum.ensures, c.requires.0 c.loop-j.j c.loop-j-test.true)
-
-pub loop-j-preserved : goal.loop-j-preserved
-loop-j-preserved c =
-    (filling_store c.loop-j.invariant.0 _ (omega arith) (ap₂ (λ (y z : ℕ). y - z) c.running_sum-sum.ensures c.loop-j.invariant.1), c.running_sum-sum.ensures ∙ rw add-one)
+pub map-requires : goal.map-requires
+map-requires c =
+    let d : ℕ = 2 * scale_of c.args.sep in (
+      omega arith,
+      (
+        omega arith,
+        (
+          omega arith,
+          served {held = λ f. f.1.now} {Kept = λ f. f.0.now ≡ c.args.sep} {gives = λ u x. x / d - u} {next = λ u x. x / d} (record { call = λ f x y q kept k. search rules })
+              c.args.levels (before (λ i. get_or c.args.levels i 0 / d)) (λ i. refl) _
+              (λ i p l h kept.
+              let low : i < 8 = omega arith in
+              (rw (h, kept) (c.requires.1 i low), rw kept (c.requires.0 i low)))
+              _ refl refl,
+        ),
+      ),
+    )
 
 pub returns : goal.returns
-returns c = filling_whole c.loop-j.invariant.0 8 refl c.loop-j-test.false
+returns c =
+    let d : ℕ = 2 * scale_of c.args.sep in
+    mapped {held = λ f. f.1.now} {Kept = λ f. f.0.now ≡ c.args.sep} {gives = λ u x. x / d - u} {next = λ u x. x / d} (record { call = λ f x y q kept k. search rules })
+    c.args.levels (before (λ i. get_or c.args.levels i 0 / d)) (λ i. refl) _ _ 8 c.map.ensures.items refl refl
