@@ -235,9 +235,9 @@ fn first(run: &[u64], length: usize) -> &[u64] {
     &run[..length.min(run.len())]
 }
 
-// Shows the charge of a job.
-fn show(rt: &impl Print, name: impl Display + Drop, prices: [u32; 8], tallies: &[u64]) -> io::Result<()> {
-    match bill::charge(prices, tallies) {
+// Shows the charge of a job: its refusal, 0 where there is none, and its cents.
+fn show(rt: &impl Print, name: impl Display + Drop, prices: [u32; 8], run: &[u64]) -> io::Result<()> {
+    match bill::charge(prices, run) {
         Ok(cents) => println!(rt; "{name}: 0 {cents}"),
         Err(refusal) => println!(rt; "{name}: {} 0", u32::from(refusal)),
     }
