@@ -25,6 +25,7 @@ const EIGHTH: u64 = 2305843009213693952;
 
 // The lowest price, and the highest.
 const LOW: [u32; 8] = [1; 8];
+
 const HIGH: [u32; 8] = [1000000; 8];
 
 // A hundred and five cells in half tones of cyan and magenta.
@@ -66,8 +67,18 @@ fn places(rt: &impl Print) -> io::Result<()> {
     let both = [first, second];
     show(rt, "rising prices", rising, &first)?;
     show(rt, "falling prices", falling, &first)?;
-    show(rt, "rising prices, two windows", rising, both.as_flattened())?;
-    show(rt, "falling prices, two windows", falling, both.as_flattened())
+    show(
+        rt,
+        "rising prices, two windows",
+        rising,
+        both.as_flattened(),
+    )?;
+    show(
+        rt,
+        "falling prices, two windows",
+        falling,
+        both.as_flattened(),
+    )
 }
 
 // Refusals 6 and 13: lengths beside a multiple of 8, no window, and beside 1,000 windows.
@@ -76,7 +87,12 @@ fn lengths(rt: &impl Print) -> io::Result<()> {
     for length in [
         0, 1, 7, 8, 9, 15, 16, 17, 7992, 7999, 8000, 8001, 8007, 8008, 8009, 8016,
     ] {
-        show(rt, format_args!("length {length}"), HIGH, first(&run, length))?;
+        show(
+            rt,
+            format_args!("length {length}"),
+            HIGH,
+            first(&run, length),
+        )?;
     }
     Ok(())
 }
@@ -236,7 +252,12 @@ fn first(run: &[u64], length: usize) -> &[u64] {
 }
 
 // Shows the charge of a job: its refusal, 0 where there is none, and its cents.
-fn show(rt: &impl Print, name: impl Display + Drop, prices: [u32; 8], run: &[u64]) -> io::Result<()> {
+fn show(
+    rt: &impl Print,
+    name: impl Display + Drop,
+    prices: [u32; 8],
+    run: &[u64],
+) -> io::Result<()> {
     match bill::charge(prices, run) {
         Ok(cents) => println!(rt; "{name}: 0 {cents}"),
         Err(refusal) => println!(rt; "{name}: {} 0", u32::from(refusal)),
