@@ -3,6 +3,11 @@
 // windows. The file stdout holds what this must print.
 #![tactic(auto)]
 
+ghost use Rattle.std.specs.Prelude.{◌<◌};
+
+use std::fmt::Display;
+use std::io;
+
 // The most cells of a window.
 const FULL: u64 = 4294967296;
 
@@ -18,322 +23,243 @@ const HALF: u64 = 9223372036854775808;
 // Eight times this is 0 in 64 bits.
 const EIGHTH: u64 = 2305843009213693952;
 
-fn main() {
-    io::write_all(1, b"# job: refusal cents\n");
-    examples();
-    places();
-    lengths();
-    price_limits();
-    window_limits();
-    full_windows();
-    wide_numbers();
-    lowest_first();
-    rounding();
-    jobs_and_windows();
-    most_saved();
+// The lowest price, and the highest.
+const LOW: [u32; 8] = [1; 8];
+
+const HIGH: [u32; 8] = [1000000; 8];
+
+// A hundred and five cells in half tones of cyan and magenta.
+const BRICK: [u64; 8] = [26, 26, 0, 27, 0, 0, 0, 26];
+
+fn main(rt: HostRuntime) -> io::Result<()> {
+    println!(rt; "# job: refusal cents")?;
+    examples(&rt)?;
+    places(&rt)?;
+    lengths(&rt)?;
+    price_limits(&rt)?;
+    window_limits(&rt)?;
+    full_windows(&rt)?;
+    wide_numbers(&rt)?;
+    lowest_first(&rt)?;
+    rounding(&rt)?;
+    jobs_and_windows(&rt)?;
+    most_saved(&rt)
 }
 
 // The worked example (rule 12.15): a window once and twice, one cell, free ink and the largest job; and no
 // cell at all.
-fn examples() {
-    let highest = [1000000u32; 8];
-    let largest = [EVEN; 8000];
-    show_window(b"a cent a cell", highest, brick());
-    show_two_bricks(highest);
-    show_window(b"one cell", [1u32; 8], ends(1, 0));
-    show_window(b"free ink", [0u32; 8], brick());
-    show(b"largest job", highest, &largest);
-    show_window(b"no cell", highest, [0u64; 8]);
-}
-
-fn show_two_bricks(prices: [u32; 8]) {
-    let mut run = [0u64; 16];
-    run[0] = 26;
-    run[1] = 26;
-    run[3] = 27;
-    run[7] = 26;
-    run[8] = 26;
-    run[9] = 26;
-    run[11] = 27;
-    run[15] = 26;
-    show(b"a cent a cell, twice", prices, &run);
+fn examples(rt: &impl Print) -> io::Result<()> {
+    show(rt, "a cent a cell", HIGH, &BRICK)?;
+    show(rt, "a cent a cell, twice", HIGH, [BRICK; 2].as_flattened())?;
+    show(rt, "one cell", LOW, &ends(1, 0))?;
+    show(rt, "free ink", [0; 8], &BRICK)?;
+    show(rt, "largest job", HIGH, &[EVEN; 8000])?;
+    show(rt, "no cell", HIGH, &[0; 8])
 }
 
 // Prices and tallies that all differ, so that each exchange of two shows: a window, and with it a second whose
 // tallies are in another order.
-fn places() {
-    let rising = prices_of(1, 20, 300, 4000, 50000, 600000, 700007, 1000000);
-    let falling = prices_of(1000000, 700007, 600000, 50000, 4000, 300, 20, 1);
-    let mut run = [0u64; 16];
-    run[0] = 900000001;
-    run[1] = 80000002;
-    run[2] = 7000003;
-    run[3] = 600004;
-    run[4] = 50005;
-    run[5] = 4006;
-    run[6] = 307;
-    run[7] = 28;
-    run[8] = 60013;
-    run[9] = 1017;
-    run[10] = 500019;
-    run[11] = 9000023;
-    run[12] = 70000029;
-    run[13] = 31;
-    run[14] = 800000037;
-    run[15] = 241;
-    show_part(b"rising prices", rising, &run, 0, 8);
-    show_part(b"falling prices", falling, &run, 0, 8);
-    show(b"rising prices, two windows", rising, &run);
-    show(b"falling prices, two windows", falling, &run);
+fn places(rt: &impl Print) -> io::Result<()> {
+    let rising = [1, 20, 300, 4000, 50000, 600000, 700007, 1000000];
+    let falling = [1000000, 700007, 600000, 50000, 4000, 300, 20, 1];
+    let first = [900000001, 80000002, 7000003, 600004, 50005, 4006, 307, 28];
+    let second = [60013, 1017, 500019, 9000023, 70000029, 31, 800000037, 241];
+    let both = [first, second];
+    show(rt, "rising prices", rising, &first)?;
+    show(rt, "falling prices", falling, &first)?;
+    show(
+        rt,
+        "rising prices, two windows",
+        rising,
+        both.as_flattened(),
+    )?;
+    show(
+        rt,
+        "falling prices, two windows",
+        falling,
+        both.as_flattened(),
+    )
 }
 
 // Refusals 6 and 13: lengths beside a multiple of 8, no window, and beside 1,000 windows.
-fn lengths() {
-    let run = [1u64; 8016];
-    show_length(&run, 0);
-    show_length(&run, 1);
-    show_length(&run, 7);
-    show_length(&run, 8);
-    show_length(&run, 9);
-    show_length(&run, 15);
-    show_length(&run, 16);
-    show_length(&run, 17);
-    show_length(&run, 7992);
-    show_length(&run, 7999);
-    show_length(&run, 8000);
-    show_length(&run, 8001);
-    show_length(&run, 8007);
-    show_length(&run, 8008);
-    show_length(&run, 8009);
-    show_length(&run, 8016);
-}
-
-fn show_length(run: &[u64], length: usize) {
-    io::write_all(1, b"length ");
-    io::print_decimal(1, length as u64);
-    show_part(b"", [1000000u32; 8], run, 0, length);
-}
-
-// Refusal 12: each price at its limit and beyond it.
-fn price_limits() {
-    show_prices(0);
-    show_prices(1);
-    show_prices(2);
-    show_prices(3);
-    show_prices(4);
-    show_prices(5);
-    show_prices(6);
-    show_prices(7);
-}
-
-fn show_prices(place: usize) {
-    show_price(place, 999999);
-    show_price(place, 1000000);
-    show_price(place, 1000001);
-    show_price(place, 4294967295);
-}
-
-// One price, where all other ink is free.
-fn show_price(place: usize, price: u32) {
-    let mut prices = [0u32; 8];
-    if place < 8 {
-        prices[place] = price;
+fn lengths(rt: &impl Print) -> io::Result<()> {
+    let run = [1; 8016];
+    for length in [
+        0, 1, 7, 8, 9, 15, 16, 17, 7992, 7999, 8000, 8001, 8007, 8008, 8009, 8016,
+    ] {
+        show(
+            rt,
+            format_args!("length {length}"),
+            HIGH,
+            first(&run, length),
+        )?;
     }
-    io::write_all(1, b"price ");
-    io::print_decimal(1, place as u64);
-    io::write_all(1, b" of ");
-    io::print_decimal(1, price as u64);
-    show_window(b"", prices, tallies_of(10, 20, 30, 40, 50, 60, 70, 80));
+    Ok(())
+}
+
+// Refusal 12: each price at its limit and beyond it, where all other ink is free.
+fn price_limits(rt: &impl Print) -> io::Result<()> {
+    for place in 0..8 {
+        for price in [999999, 1000000, 1000001, 4294967295] {
+            let mut prices = [0; 8];
+            prices[place] = price;
+            let name = format_args!("price {place} of {price}");
+            show(rt, name, prices, &[10, 20, 30, 40, 50, 60, 70, 80])?;
+        }
+    }
+    Ok(())
 }
 
 // Refusal 13: a window of 4,294,967,296 cells and of one more, in one tally or in several.
-fn window_limits() {
-    show_tallies(0);
-    show_tallies(7);
-    show_tallies(8);
-    show_tallies(15);
-    show_tallies(16);
-    show_tallies(23);
-    let prices = [1u32; 8];
-    show_window(b"4294967295 and 1", prices, ends(4294967295, 1));
-    show_window(b"4294967295 and 2", prices, ends(4294967295, 2));
-    show_window(b"4294967296 and 1", prices, ends(FULL, 1));
-    show_window(b"1 and 4294967296", prices, ends(1, FULL));
-    let mut even = [EVEN; 8];
-    show_window(b"even", prices, even);
-    even[4] = 536870913;
-    show_window(b"even and 1", prices, even);
-}
-
-fn show_tallies(place: usize) {
-    show_tally(place, FULL);
-    show_tally(place, 4294967297);
-}
-
-// One tally of a job of three windows that has no other cells.
-fn show_tally(place: usize, tally: u64) {
-    let mut run = [0u64; 24];
-    if 24 <= place {
-        return;
+fn window_limits(rt: &impl Print) -> io::Result<()> {
+    for window in 0..3 {
+        show_tallies(rt, 8 * window)?;
+        show_tallies(rt, 8 * window + 7)?;
     }
-    run[place] = tally;
-    io::write_all(1, b"tally ");
-    io::print_decimal(1, place as u64);
-    io::write_all(1, b" of ");
-    io::print_decimal(1, tally);
-    show(b"", [1u32; 8], &run);
+    show(rt, "4294967295 and 1", LOW, &ends(4294967295, 1))?;
+    show(rt, "4294967295 and 2", LOW, &ends(4294967295, 2))?;
+    show(rt, "4294967296 and 1", LOW, &ends(FULL, 1))?;
+    show(rt, "1 and 4294967296", LOW, &ends(1, FULL))?;
+    let mut even = [EVEN; 8];
+    show(rt, "even", LOW, &even)?;
+    even[4] += 1;
+    show(rt, "even and 1", LOW, &even)
+}
+
+// One tally of a job of three windows that has no other cells: at its limit and beyond it.
+fn show_tallies(rt: &impl Print, place: usize) -> io::Result<()>
+    requires { place < 24 }
+{
+    for tally in [FULL, FULL + 1] {
+        let mut run = [0; 24];
+        run[place] = tally;
+        show(rt, format_args!("tally {place} of {tally}"), LOW, &run)?;
+    }
+    Ok(())
 }
 
 // The limit is each window's own: neighbours that are full, and a cell more in the first and in the last of
 // 1,000 full windows.
-fn full_windows() {
-    let prices = [1u32; 8];
-    let mut three = [0u64; 24];
-    three[7] = FULL;
-    three[8] = FULL;
-    three[16] = FULL;
-    show(b"three full windows", prices, &three);
+fn full_windows(rt: &impl Print) -> io::Result<()> {
+    let three = [ends(0, FULL), ends(FULL, 0), ends(FULL, 0)];
+    show(rt, "three full windows", LOW, three.as_flattened())?;
     let mut run = [EVEN; 8000];
-    show(b"1000 full windows", prices, &run);
-    run[7999] = 536870913;
-    show(b"a cell more in the last", prices, &run);
+    show(rt, "1000 full windows", LOW, &run)?;
+    run[7999] = EVEN + 1;
+    show(rt, "a cell more in the last", LOW, &run)?;
     run[7999] = EVEN;
-    run[0] = 536870913;
-    show(b"a cell more in the first", prices, &run);
+    run[0] = EVEN + 1;
+    show(rt, "a cell more in the first", LOW, &run)
 }
 
 // Refusal 13: tallies that add up to 0, or to little, in 64 bits or in 32.
-fn wide_numbers() {
-    let prices = [1u32; 8];
-    show_window(b"top in all", prices, [TOP; 8]);
-    show_window(b"top first", prices, ends(TOP, 0));
-    show_window(b"top last", prices, ends(0, TOP));
-    show_window(b"top and 1", prices, ends(TOP, 1));
-    show_window(b"1 and top", prices, ends(1, TOP));
-    show_window(b"half twice", prices, ends(HALF, HALF));
-    show_window(b"an eighth in all", prices, [EIGHTH; 8]);
-    show_window(b"no lower half", prices, ends(18446744069414584320, 0));
-    let mut run = [1u64; 16];
+fn wide_numbers(rt: &impl Print) -> io::Result<()> {
+    show(rt, "top in all", LOW, &[TOP; 8])?;
+    show(rt, "top first", LOW, &ends(TOP, 0))?;
+    show(rt, "top last", LOW, &ends(0, TOP))?;
+    show(rt, "top and 1", LOW, &ends(TOP, 1))?;
+    show(rt, "1 and top", LOW, &ends(1, TOP))?;
+    show(rt, "half twice", LOW, &ends(HALF, HALF))?;
+    show(rt, "an eighth in all", LOW, &[EIGHTH; 8])?;
+    show(rt, "no lower half", LOW, &ends(18446744069414584320, 0))?;
+    let mut run = [1; 16];
     run[8] = HALF;
     run[15] = HALF;
-    show(b"half twice in the second window", prices, &run);
+    show(rt, "half twice in the second window", LOW, &run)?;
     run[8] = 1;
     run[7] = HALF;
-    show(b"half in each window", prices, &run);
+    show(rt, "half in each window", LOW, &run)
 }
 
 // Of several refusals the lowest number is answered.
-fn lowest_first() {
-    let right = [1000000u32; 8];
-    let wrong = prices_of(0, 0, 0, 0, 0, 0, 0, 1000001);
+fn lowest_first(rt: &impl Print) -> io::Result<()> {
+    let wrong = [0, 0, 0, 0, 0, 0, 0, 1000001];
     let run = [TOP; 8016];
-    let free = [0u64; 8016];
-    show_part(b"6 and 12", wrong, &free, 0, 9);
-    show_part(b"6 and 13, a window", right, &run, 0, 9);
-    show_part(b"6 and 13, a part of one", right, &run, 0, 7);
-    show_part(b"6 and 13, 1001 windows", right, &free, 0, 8009);
-    show_part(b"12 and 13, no window", wrong, &free, 0, 0);
-    show_part(b"12 and 13, a window", wrong, &run, 0, 8);
-    show_part(b"12 and 13, 1001 windows", wrong, &free, 0, 8008);
-    show_part(b"6, 12 and 13, a window", wrong, &run, 0, 9);
-    show_part(b"6, 12 and 13, 1001 windows", wrong, &run, 0, 8009);
-    show_part(b"13 and 13", right, &run, 0, 8008);
+    let free = [0; 8016];
+    show(rt, "6 and 12", wrong, &free[..9])?;
+    show(rt, "6 and 13, a window", HIGH, &run[..9])?;
+    show(rt, "6 and 13, a part of one", HIGH, &run[..7])?;
+    show(rt, "6 and 13, 1001 windows", HIGH, &free[..8009])?;
+    show(rt, "12 and 13, no window", wrong, &free[..0])?;
+    show(rt, "12 and 13, a window", wrong, &run[..8])?;
+    show(rt, "12 and 13, 1001 windows", wrong, &free[..8008])?;
+    show(rt, "6, 12 and 13, a window", wrong, &run[..9])?;
+    show(rt, "6, 12 and 13, 1001 windows", wrong, &run[..8009])?;
+    show(rt, "13 and 13", HIGH, &run[..8008])
 }
 
 // Costs beside whole cents: what all colorants cost together is rounded, not what each costs.
-fn rounding() {
-    let one = [1u32; 8];
-    show_window(b"cost 0", one, [0u64; 8]);
-    show_window(b"cost 999999", one, ends(999999, 0));
-    show_window(b"cost 1000000", one, ends(1000000, 0));
-    show_window(b"cost 1000001", one, ends(0, 1000001));
-    show_window(b"eight times 125000", one, [125000u64; 8]);
-    show_window(b"eight times 125001", one, [125001u64; 8]);
-    let below = [999999u32; 8];
-    show_window(b"1 at 999999", below, ends(0, 1));
-    show_window(b"999999 at 999999", below, ends(999999, 0));
-    show_window(b"1000001 at 999999", below, ends(1000000, 1));
-    let half = [500000u32; 8];
-    show_window(b"two halves", half, ends(1, 1));
-    show_window(b"three halves", half, ends(1, 2));
+fn rounding(rt: &impl Print) -> io::Result<()> {
+    show(rt, "cost 0", LOW, &[0; 8])?;
+    show(rt, "cost 999999", LOW, &ends(999999, 0))?;
+    show(rt, "cost 1000000", LOW, &ends(1000000, 0))?;
+    show(rt, "cost 1000001", LOW, &ends(0, 1000001))?;
+    show(rt, "eight times 125000", LOW, &[125000; 8])?;
+    show(rt, "eight times 125001", LOW, &[125001; 8])?;
+    let below = [999999; 8];
+    show(rt, "1 at 999999", below, &ends(0, 1))?;
+    show(rt, "999999 at 999999", below, &ends(999999, 0))?;
+    show(rt, "1000001 at 999999", below, &ends(1000000, 1))?;
+    let half = [500000; 8];
+    show(rt, "two halves", half, &ends(1, 1))?;
+    show(rt, "three halves", half, &ends(1, 2))
 }
 
 // Jobs of three windows, each window after it as a job of its own: together these cost 0, 0, 1, 2 and 2
 // cents more.
-fn jobs_and_windows() {
-    show_job(b"whole cents", 1000000, 2000000, 3000000);
-    show_job(b"whole cents and a cell", 1000000, 2000000, 1);
-    show_job(b"half cents", 500001, 500001, 500001);
-    show_job(b"cents and a cell each", 1000001, 2000001, 3000001);
-    show_job(b"three cells", 1, 1, 1);
+fn jobs_and_windows(rt: &impl Print) -> io::Result<()> {
+    show_job(rt, "whole cents", [1000000, 2000000, 3000000])?;
+    show_job(rt, "whole cents and a cell", [1000000, 2000000, 1])?;
+    show_job(rt, "half cents", [500001; 3])?;
+    show_job(rt, "cents and a cell each", [1000001, 2000001, 3000001])?;
+    show_job(rt, "three cells", [1; 3])
 }
 
 // A job whose windows have these cells, each in one colorant, at a price of 1.
-fn show_job(name: &[u8], first: u64, second: u64, third: u64) {
-    let prices = [1u32; 8];
-    let mut run = [0u64; 24];
-    run[0] = first;
-    run[11] = second;
-    run[23] = third;
-    show(name, prices, &run);
-    show_part(b"its first window", prices, &run, 0, 8);
-    show_part(b"its second window", prices, &run, 8, 16);
-    show_part(b"its third window", prices, &run, 16, 24);
+fn show_job(rt: &impl Print, name: &str, cells: [u64; 3]) -> io::Result<()> {
+    let mut windows = [[0; 8]; 3];
+    windows[0][0] = cells[0];
+    windows[1][3] = cells[1];
+    windows[2][7] = cells[2];
+    show(rt, name, LOW, windows.as_flattened())?;
+    for (place, window) in ["first", "second", "third"].iter().zip(&windows) {
+        show(rt, format_args!("its {place} window"), LOW, window)?;
+    }
+    Ok(())
 }
 
 // Jobs of 1,000 windows, each with two of these: a window costs a cent, and the windows together cost 999
 // cents more than the first job and as much as the second.
-fn most_saved() {
-    let prices = [1u32; 8];
-    let run = [1u64; 8000];
-    let whole = [125000u64; 8000];
-    show(b"eight cells in each of 1000 windows", prices, &run);
-    show_part(b"its first window", prices, &run, 0, 8);
-    show_part(b"its last window", prices, &run, 7992, 8000);
-    show(b"a million cells in each of 1000 windows", prices, &whole);
-    show_part(b"its first window", prices, &whole, 0, 8);
-    show_part(b"its last window", prices, &whole, 7992, 8000);
-}
-
-// A hundred and five cells in half tones of cyan and magenta.
-fn brick() -> [u64; 8] {
-    tallies_of(26, 26, 0, 27, 0, 0, 0, 26)
+fn most_saved(rt: &impl Print) -> io::Result<()> {
+    let run = [1; 8000];
+    let whole = [125000; 8000];
+    show(rt, "eight cells in each of 1000 windows", LOW, &run)?;
+    show(rt, "its first window", LOW, &run[..8])?;
+    show(rt, "its last window", LOW, &run[7992..])?;
+    show(rt, "a million cells in each of 1000 windows", LOW, &whole)?;
+    show(rt, "its first window", LOW, &whole[..8])?;
+    show(rt, "its last window", LOW, &whole[7992..])
 }
 
 // Tallies of which all but the first and the last are 0.
 fn ends(first: u64, last: u64) -> [u64; 8] {
-    tallies_of(first, 0, 0, 0, 0, 0, 0, last)
+    [first, 0, 0, 0, 0, 0, 0, last]
 }
 
-fn tallies_of(c: u64, m: u64, y: u64, b: u64, g: u64, r: u64, k: u64, w: u64) -> [u64; 8] {
-    [c, m, y, b, g, r, k, w]
+// The first tallies of a run, or all where it has no more.
+fn first(run: &[u64], length: usize) -> &[u64] {
+    &run[..length.min(run.len())]
 }
 
-fn prices_of(c: u32, m: u32, y: u32, b: u32, g: u32, r: u32, k: u32, w: u32) -> [u32; 8] {
-    [c, m, y, b, g, r, k, w]
-}
-
-fn show_window(name: &[u8], prices: [u32; 8], tallies: [u64; 8]) {
-    show(name, prices, &tallies);
-}
-
-// Shows the charge of a part of a run, where there is such a part.
-fn show_part(name: &[u8], prices: [u32; 8], run: &[u64], from: usize, to: usize) {
-    if run.len() < to {
-        return;
+// Shows the charge of a job: its refusal, 0 where there is none, and its cents.
+fn show(
+    rt: &impl Print,
+    name: impl Display + Drop,
+    prices: [u32; 8],
+    run: &[u64],
+) -> io::Result<()> {
+    match bill::charge(prices, run) {
+        Ok(cents) => println!(rt; "{name}: 0 {cents}"),
+        Err(refusal) => println!(rt; "{name}: {} 0", u32::from(refusal)),
     }
-    if to < from {
-        return;
-    }
-    show(name, prices, &run[from..to]);
-}
-
-fn show(name: &[u8], prices: [u32; 8], tallies: &[u64]) {
-    let charge = bill::charge(prices, tallies);
-    io::write_all(1, name);
-    io::write_all(1, b": ");
-    io::print_decimal(1, charge.refusal as u64);
-    io::write_all(1, b" ");
-    io::print_decimal(1, charge.cents);
-    io::write_all(1, b"\n");
 }
