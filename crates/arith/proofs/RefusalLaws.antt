@@ -1,15 +1,18 @@
 -- Laws of the refusals' combinators: what a call that is not refused passed, and what a refused one answers.
 -- Assumes nothing.
-use Prim.Native.Nat.{ℕ, suc}
+use Prim.Native.Nat.{ℕ, suc, ◌<◌}
 use mathlib.Core.Path.{◌≡◌, refl, sym, ap, ◌∙◌}
 use mathlib.Core.Bool.{Bool, true, false, ◌&&◌, cond, false≢true}
 use mathlib.Core.List.{List, ◌++◌, append-nil}
 use native.Mathlib.Nat.{suc-ne-zero}
 use native.Mathlib.Decide.{ℕ_discrete}
+use native.Mathlib.Omega.{arith}
 use lib.ListN.{length, drop}
 use lib.Seq.{drop-length}
 use borrow.Author.Tests.{eq-eqb, ne_eqb}
-use Rattle.arith.specs.Refusal.{unless, or_else, answered, written}
+use Rattle.arith.specs.Refusal.{unless, or_else, answered, written, number}
+use Rattle.arith.specs.declared.refusals.Refusal.{Refusal}
+use Rattle.arith.specs.declared.refusals.Refusal.TheVariants.{Slope, CellCount, Subscreens, Offset, OffSheet, InputLength, OutputLength, Brick, Plates, Form, Primary, Price, Job, PrimariesLength, Stored}
 
 -- A TEST'S ANSWER, from the function that makes it and the branch that was taken on it
 pub failed : {answer test : Bool} → answer ≡ test → answer ≡ false → test ≡ false
@@ -82,3 +85,32 @@ or_none refusal later e = go (ℕ_discrete refusal 0)
     go : Dec (refusal ≡ 0) → (refusal ≡ 0) × (later ≡ 0)
     go (yes z) = (z, sym (refused_later refusal later z) ∙ e)
     go (no h) = absurd (h (sym (refused_first refusal later h) ∙ e))
+
+-- THE NUMBER OF A REFUSAL is above 0, which is that of a call that is served
+pub number_above : (e : Refusal) → 0 < number e
+number_above Slope = omega arith
+number_above CellCount = omega arith
+number_above Subscreens = omega arith
+number_above Offset = omega arith
+number_above OffSheet = omega arith
+number_above InputLength = omega arith
+number_above OutputLength = omega arith
+number_above Brick = omega arith
+number_above Plates = omega arith
+number_above Form = omega arith
+number_above Primary = omega arith
+number_above Price = omega arith
+number_above Job = omega arith
+number_above PrimariesLength = omega arith
+number_above Stored = omega arith
+
+-- a call whose first tests answer a refusal is refused so, whatever the later tests say
+pub error_first : (e : Refusal) (refusal later : ℕ) → number e ≡ refusal → number e ≡ or_else refusal later
+error_first e refusal later same = same ∙ sym (refused_first refusal later (λ z. omega (arith, number_above e, same, z)))
+
+-- a refused call answers 0 beside its refusal, and leaves memory as it was
+pub refused_answered : (refusal value : ℕ) → 0 < refusal → answered refusal value ≡ 0
+refused_answered refusal value above = answered_none refusal value (λ z. omega (arith, above, z))
+
+pub refused_written : (refusal : ℕ) (run memory : List ℕ) → 0 < refusal → memory ≡ written refusal run memory
+refused_written refusal run memory above = sym (written_none refusal run memory (λ z. omega (arith, above, z)))

@@ -2,19 +2,21 @@
 -- are counted from there.
 -- Assumes nothing.
 use Prim.Native.Nat.{ℕ, ◌+◌, ◌-◌, ◌*◌, ◌%◌, ◌<◌}
-use mathlib.Core.Path.{◌≡◌, refl, sym, ap, ◌∙◌}
+use mathlib.Core.Path.{◌≡◌, refl, sym, ap, ap₂, ◌∙◌}
 use native.Mathlib.Nat.{mod-lt, mod-eq_of_lt}
 use native.Mathlib.Decide.{ℕ_discrete}
 use native.Mathlib.Omega.{arith}
 use Rattle.arith.specs.Remainder.{remainder_of}
 use Rattle.arith.proofs.RemainderLaws.{remainder_products, remainder_below, remainder_apart, remainder_off, remainder_twice}
+use Rattle.arith.specs.Refusal.{number}
+use Rattle.arith.specs.declared.refusals.Refusal.{Refusal}
 use Rattle.screen.specs.declared.Screen.{Screen}
-use Rattle.screen.specs.declared.making.Made.{Made}
 use Rattle.screen.specs.Screens.{numbers_refusal, refusal_of, Admitted}
 use Rattle.screen.specs.Phase.{phase, phase_of}
+use Rattle.screen.specs.Made.{Made}
 use Rattle.screen.specs.Corner.{offset_of, offset_from, moved_to}
 use Rattle.screen.proofs.Refusals.{limits_kept, limits_suffice}
-use Rattle.screen.proofs.MadeLaws.{replaced_old, replaced_beside, by_admitted}
+use Rattle.screen.proofs.MadeLaws.{replaced_first, replaced_old, replaced_number, replaced_old_none, replaced_beside, by_admitted}
 
 module _ (a b n g : ℕ) (pos : 0 < n) (x y : ℕ) where
   -- the offset as seen from (x, y)
@@ -55,8 +57,11 @@ abbrev beside : Screen → ℕ → Screen
 beside s g = record { a = s.a; b = s.b; n = s.n; k = s.k; g = g; columns = s.columns; rows = s.rows; shift = s.shift }
 
 module _ (s : Screen) (x y : ℕ) where
-  pub moved_old : (refusal_of s ≡ 0 → ⊥) → ◌≡◌ {A = Made} (record { refusal = refusal_of s; screen = s }) (moved_to s x y)
-  moved_old h = replaced_old s s.n s.k (offset_from s x y) h
+  pub moved_old : (e : Refusal) → number e ≡ refusal_of s → number e ≡ (moved_to s x y).refusal
+  moved_old e same = replaced_old s s.n s.k (offset_from s x y) e same
+
+  pub moved_none : 0 < refusal_of s → s ≡ (moved_to s x y).screen
+  moved_none above = replaced_old_none s s.n s.k (offset_from s x y) above
 
   module _ (ok : Admitted s) where
     numbers_admitted : numbers_refusal s.a s.b s.n s.k (offset_from s x y) ≡ 0
@@ -76,25 +81,28 @@ module _ (s : Screen) (x y : ℕ) where
           offset_below = offset_below s.a s.b s.n s.g l.cells_above x y;
         })
 
-    pub moved_served : ◌≡◌ {A = Made} (record { refusal = 0; screen = beside s (offset_from s x y) }) (moved_to s x y)
-    moved_served = replaced_beside s s.n s.k (offset_from s x y) ok refl numbers_admitted
+    pub moved_unrefused : 0 ≡ (moved_to s x y).refusal
+    moved_unrefused = sym (replaced_number s s.n s.k (offset_from s x y) (sym ok) ∙ numbers_admitted)
 
-    moved_screen : (moved_to s x y).screen ≡ beside s (offset_from s x y)
-    moved_screen = sym (ap (λ (m : Made). m.screen) moved_served)
+    pub moved_screen : beside s (offset_from s x y) ≡ (moved_to s x y).screen
+    moved_screen = replaced_beside s s.n s.k (offset_from s x y) (sym ok) (sym numbers_admitted) refl
+
+    moved_served : ◌≡◌ {A = Made} (record { refusal = 0; screen = beside s (offset_from s x y) }) (moved_to s x y)
+    moved_served = ap₂ (λ (r : ℕ) (t : Screen). record { refusal = r; screen = t }) moved_unrefused moved_screen
 
     pub moved_phase : (i j : ℕ) → phase (moved_to s x y).screen i j ≡ phase s (x + i) (y + j)
-    moved_phase i j = rw moved_screen (phase_from s.a s.b s.n s.g (limits_kept s ok).cells_above x y i j)
+    moved_phase i j = rw (← moved_screen) (phase_from s.a s.b s.n s.g (limits_kept s ok).cells_above x y i j)
 
   pub moved_refused : (moved_to s x y).refusal ≡ refusal_of s
   moved_refused = go (ℕ_discrete (refusal_of s) 0)
     where
       go : Dec (refusal_of s ≡ 0) → (moved_to s x y).refusal ≡ refusal_of s
-      go (yes ok) = sym (ap (λ (m : Made). m.refusal) (moved_served ok)) ∙ sym ok
-      go (no h) = sym (ap (λ (m : Made). m.refusal) (moved_old h))
+      go (yes ok) = sym (moved_unrefused ok) ∙ sym ok
+      go (no h) = replaced_first s s.n s.k (offset_from s x y) h
 
 pub moved_on : (s : Screen) → Admitted s → (x y i j : ℕ) → moved_to (moved_to s x y).screen i j ≡ moved_to s (x + i) (y + j)
 moved_on s ok x y i j =
-    let new = moved_screen s x y ok in
+    let new = sym (moved_screen s x y ok) in
     let admitted : Admitted (beside s (offset_from s x y)) = rw new at (by_admitted s s.n s.k (offset_from s x y) ok) in
     rw new
     (sym (moved_served (beside s (offset_from s x y)) i j admitted)

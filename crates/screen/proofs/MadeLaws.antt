@@ -1,26 +1,18 @@
 -- Making and replacing: what is handed back, refused or not, and that it is admitted.
 -- Assumes nothing.
-use Prim.Native.Nat.{ℕ, ◌≤◌}
+use Prim.Native.Nat.{ℕ, ◌≤◌, ◌<◌}
 use mathlib.Core.Path.{◌≡◌, refl, sym, ap, ◌∙◌}
 use mathlib.Core.List.{List, [], ◌∷◌}
 use native.Mathlib.Decide.{ℕ_discrete}
+use native.Mathlib.Omega.{arith}
 use borrow.Author.Tests.{eq-eqb, ne_eqb}
-use Rattle.arith.specs.Refusal.{or_else}
-use Rattle.arith.proofs.RefusalLaws.{refused_first, refused_later, or_none}
+use Rattle.arith.specs.Refusal.{or_else, number}
+use Rattle.arith.specs.declared.refusals.Refusal.{Refusal}
+use Rattle.arith.proofs.RefusalLaws.{refused_first, refused_later, error_first, or_none}
 use Rattle.screen.specs.declared.Screen.{Screen}
-use Rattle.screen.specs.declared.making.Made.{Made}
 use Rattle.screen.specs.Screens.{screen_of, numbers_refusal, refusal_of, Admitted, Stored}
-use Rattle.screen.specs.Made.{handed_back, no_screen, made_of, replaced_by, Replacement, offset, subscreens, cells, replaced, after_all}
+use Rattle.screen.specs.Made.{no_screen, made_of, replaced_by, Replacement, offset, subscreens, cells, replaced, after_all}
 use Rattle.screen.proofs.Refusals.{numbers_most, stored_suffice, stored_admitted, refused_numbers, stored_kept}
-
--- ---- what is handed back
-
-module _ (refusal : ℕ) (new other : Screen) where
-  pub handed_new : refusal ≡ 0 → ◌≡◌ {A = Made} (record { refusal = 0; screen = new }) (handed_back refusal new other)
-  handed_new e = rw (eq-eqb refusal 0 e, e)
-
-  pub handed_other : (refusal ≡ 0 → ⊥) → ◌≡◌ {A = Made} (record { refusal = refusal; screen = other }) (handed_back refusal new other)
-  handed_other h = rw (ne_eqb refusal 0 h)
 
 -- ---- making
 
@@ -40,14 +32,18 @@ module _ (a b n k g : ℕ) where
       go (yes e) = e ∙ sym (of_admitted e)
       go (no h) = refused_numbers (screen_of a b n k g) h
 
-  pub made_refused : (numbers_refusal a b n k g ≡ 0 → ⊥)
-      → ◌≡◌ {A = Made} (record { refusal = numbers_refusal a b n k g; screen = no_screen }) (made_of a b n k g)
+  -- what `make` answers, by the test of the five numbers
+  pub made_number : (made_of a b n k g).refusal ≡ numbers_refusal a b n k g
   unfolding made_of
-  made_refused h = handed_other _ _ _ h
+  made_number = refl
 
-  pub made_served : numbers_refusal a b n k g ≡ 0 → ◌≡◌ {A = Made} (record { refusal = 0; screen = screen_of a b n k g }) (made_of a b n k g)
+  pub made_none : 0 < numbers_refusal a b n k g → no_screen ≡ (made_of a b n k g).screen
   unfolding made_of
-  made_served e = handed_new _ _ _ e
+  made_none above = rw (ne_eqb (numbers_refusal a b n k g) 0 (λ z. omega (arith, above, z)))
+
+  pub made_served : 0 ≡ numbers_refusal a b n k g → screen_of a b n k g ≡ (made_of a b n k g).screen
+  unfolding made_of
+  made_served e = rw (eq-eqb (numbers_refusal a b n k g) 0 (sym e))
 
   pub made_words : ((made_of a b n k g).refusal ≡ refusal_of (screen_of a b n k g)) × ((made_of a b n k g).refusal ≤ 4) × ((made_of a b n k g).refusal ≡ 0 → (made_of a b n k g).screen ≡ screen_of a b n k g) × (((made_of a b n k g).refusal ≡ 0 → ⊥) → (made_of a b n k g).screen ≡ no_screen)
   unfolding made_of
@@ -70,38 +66,41 @@ module _ (s : Screen) (n k g : ℕ) where
   abbrev tested : ℕ
   tested = or_else (refusal_of s) (numbers_refusal s.a s.b n k g)
 
-  -- the screen that was handed in, beside a refusal
-  abbrev kept : ℕ → Made
-  kept refusal = record { refusal = refusal; screen = s }
-
-  -- refused for the screen that was handed in
-  pub replaced_old : (refusal_of s ≡ 0 → ⊥) → ◌≡◌ {A = Made} (record { refusal = refusal_of s; screen = s }) (replaced_by s n k g)
+  -- refused for the screen that was handed in,
+  pub replaced_first : (refusal_of s ≡ 0 → ⊥) → (replaced_by s n k g).refusal ≡ refusal_of s
   unfolding replaced_by
-  replaced_old h =
-      let first : tested ≡ refusal_of s = refused_first (refusal_of s) _ h in
-      ap kept (sym first) ∙ handed_other tested (screen_of s.a s.b n k g) s (λ z. h (sym first ∙ z))
+  replaced_first h = refused_first (refusal_of s) _ h
 
-  module _ (ok : refusal_of s ≡ 0) where
-    later : tested ≡ numbers_refusal s.a s.b n k g
-    later = refused_later (refusal_of s) _ ok
+  pub replaced_old : (e : Refusal) → number e ≡ refusal_of s → number e ≡ (replaced_by s n k g).refusal
+  unfolding replaced_by
+  replaced_old e same = error_first e (refusal_of s) _ same
 
-    -- for the new numbers
-    pub replaced_new : (numbers_refusal s.a s.b n k g ≡ 0 → ⊥)
-        → ◌≡◌ {A = Made} (record { refusal = numbers_refusal s.a s.b n k g; screen = s }) (replaced_by s n k g)
+  -- or for the new numbers
+  pub replaced_number : 0 ≡ refusal_of s → (replaced_by s n k g).refusal ≡ numbers_refusal s.a s.b n k g
+  unfolding replaced_by
+  replaced_number ok = refused_later (refusal_of s) _ (sym ok)
+
+  replaced_none : 0 < tested → s ≡ (replaced_by s n k g).screen
+  unfolding replaced_by
+  replaced_none above = rw (ne_eqb tested 0 (λ z. omega (arith, above, z)))
+
+  pub replaced_old_none : 0 < refusal_of s → s ≡ (replaced_by s n k g).screen
+  replaced_old_none above = replaced_none (omega (arith, above, refused_first (refusal_of s) (numbers_refusal s.a s.b n k g) (λ z. omega (arith, above, z))))
+
+  pub replaced_new_none : 0 ≡ refusal_of s → 0 < numbers_refusal s.a s.b n k g → s ≡ (replaced_by s n k g).screen
+  replaced_new_none ok above = replaced_none (omega (arith, above, refused_later (refusal_of s) (numbers_refusal s.a s.b n k g) (sym ok)))
+
+  -- and served, with its brick worked out or, beside the same cell count, as it was
+  module _ (ok : 0 ≡ refusal_of s) (e : 0 ≡ numbers_refusal s.a s.b n k g) where
+    pub replaced_served : screen_of s.a s.b n k g ≡ (replaced_by s n k g).screen
     unfolding replaced_by
-    replaced_new h = ap kept (sym later) ∙ handed_other tested (screen_of s.a s.b n k g) s (λ z. h (sym later ∙ z))
+    replaced_served = rw (eq-eqb tested 0 (refused_later (refusal_of s) _ (sym ok) ∙ sym e))
 
-    -- and served, with its brick worked out or, beside the same cell count, as it was
-    pub replaced_served : numbers_refusal s.a s.b n k g ≡ 0
-        → ◌≡◌ {A = Made} (record { refusal = 0; screen = screen_of s.a s.b n k g }) (replaced_by s n k g)
-    unfolding replaced_by
-    replaced_served e = handed_new tested (screen_of s.a s.b n k g) s (later ∙ e)
-
-    pub replaced_beside : s.n ≡ n → numbers_refusal s.a s.b n k g ≡ 0
-        → ◌≡◌ {A = Made}
-        (record { refusal = 0; screen = record { a = s.a; b = s.b; n = n; k = k; g = g; columns = s.columns; rows = s.rows; shift = s.shift } })
-        (replaced_by s n k g)
-    replaced_beside same e = ap (λ (t : Screen). record { refusal = 0; screen = t }) (sym (brick_stays s n k g ok same)) ∙ replaced_served e
+    pub replaced_beside : s.n ≡ n
+        → ◌≡◌ {A = Screen} (record { a = s.a; b = s.b; n = s.n; k = k; g = g; columns = s.columns; rows = s.rows; shift = s.shift }) (replaced_by s n k g).screen
+    replaced_beside same =
+        ap (λ (m : ℕ). record { a = s.a; b = s.b; n = m; k = k; g = g; columns = s.columns; rows = s.rows; shift = s.shift }) same
+        ∙ (rw (brick_stays s n k g (sym ok) same) at replaced_served)
 
   -- the same of the answer
   pub refused_keeps : ((replaced_by s n k g).refusal ≡ 0 → ⊥) → (replaced_by s n k g).screen ≡ s

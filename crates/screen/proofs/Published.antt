@@ -9,10 +9,9 @@ use lib.Arith.{digits_lt, digits_div, digits_mod}
 use Rattle.arith.proofs.RemainderLaws.{remainder_below}
 use Rattle.arith.proofs.RunLaws.{upto_length, upto_at, upto_over}
 use Rattle.screen.specs.declared.Screen.{Screen}
-use Rattle.screen.specs.declared.bricks.Brick.{Brick}
 use Rattle.screen.specs.Screens.{Admitted, Limits}
 use Rattle.screen.specs.Phase.{phase}
-use Rattle.screen.specs.Brick.{rows, columns, shift, brick_phases, brick_place, filled}
+use Rattle.screen.specs.Brick.{BrickAnswer, rows, columns, shift, brick_phases, brick_place, filled}
 use Rattle.screen.specs.Motif.{in_motif}
 use Rattle.screen.specs.Made.{made_of}
 use Rattle.screen.specs.Laws.{AdmittedWords, PhaseBelow, PhaseWords, PhaseOnly, StepsRight, StepRight, StepsDown, StepDown, LinesRise, PlaceOnSheet, PlaceAnswered, BrickSize, PeriodRight, ShiftWords, ShiftOnly, ShiftLaw, BrickAnswered, FilledIsTrue, ReadFromBrick, BufferRefused, times, EachPhaseOnce, EachPhaseTimes, MotifSize, EachPhaseInMotif, MadeWords, MadeAdmitted, ReplacedAdmitted, RefusedKeeps, OffsetKeeps, SubscreensKeep, CellsKeep, TrueThroughout, MovedRefused, Moved, MovedOn}
@@ -85,7 +84,7 @@ shift_law s e = BrickLaws.shifted _ _ _ _ (limits e).cells_above
 pub brick_answered : BrickAnswered
 brick_answered s e =
     let stored = Refusals.stored_kept s e in
-    let same : ◌≡◌ {A = Brick} (record { refusal = 0; columns = s.columns; rows = s.rows; shift = s.shift }) (record { refusal = 0; columns = columns s; rows = rows s; shift = shift s }) = rw (stored.columns_true, stored.rows_true, stored.shift_true) in
+    let same : ◌≡◌ {A = BrickAnswer} (record { refusal = 0; columns = s.columns; rows = s.rows; shift = s.shift }) (record { refusal = 0; columns = columns s; rows = rows s; shift = shift s }) = rw (stored.columns_true, stored.rows_true, stored.shift_true) in
     sym (Refusals.brick_whole s e) ∙ same
 
 -- a place within the brick is one of its first N

@@ -9,18 +9,17 @@ use native.Mathlib.Omega.{arith}
 use lib.Dec.{eqb}
 use lib.ListN.{length, drop}
 use borrow.Author.Tests.{leb-true, ltb-true, eqb-true, eqb-false, le-leb, lt-leb, lt-ltb, eq-eqb}
-use Rattle.arith.specs.Refusal.{unless}
+use Rattle.arith.specs.Refusal.{unless, number}
+use Rattle.arith.specs.declared.refusals.Refusal.{Refusal}
 use Rattle.arith.specs.Sheet.{on_sheet}
-use Rattle.arith.proofs.RefusalLaws.{both_pass, unless_none, refused_first, refused_later, answered_none, answered_whole, written_none, written_whole, or_none}
+use Rattle.arith.proofs.RefusalLaws.{both_pass, unless_none, refused_first, refused_later, error_first, refused_written, answered_none, answered_whole, written_whole, or_none}
 use Rattle.arith.proofs.RunLaws.{upto_length}
 use Rattle.arith.proofs.SheetLaws.{off_right, off_below, on_sheet_lem, sheet_kept}
 use Rattle.screen.specs.declared.Screen.{Screen}
-use Rattle.screen.specs.declared.places.Place.{Place}
-use Rattle.screen.specs.declared.bricks.Brick.{Brick}
 use Rattle.screen.specs.Sizes.{rows_of, columns_of}
-use Rattle.screen.specs.Screens.{slope_admitted, cells_admitted, subscreens_admitted, offset_admitted, numbers_refusal, stored_true, refusal_of, Admitted, Limits, Stored}
-use Rattle.screen.specs.Phase.{phase, place_refusal, place_of}
-use Rattle.screen.specs.Brick.{brick_of, brick_phases, buffer_refusal, filled}
+use Rattle.screen.specs.Screens.{screen_of, slope_admitted, cells_admitted, subscreens_admitted, offset_admitted, numbers_refusal, stored_true, refusal_of, Admitted, Limits, Stored}
+use Rattle.screen.specs.Phase.{Place, phase, place_refusal, place_of}
+use Rattle.screen.specs.Brick.{BrickAnswer, brick_of, brick_phases, buffer_refusal, filled}
 use Rattle.screen.specs.Laws.{AdmittedWords}
 use Rattle.screen.proofs.BrickLaws.{rows_pos, rows_only, shift_words, shift_only}
 
@@ -68,10 +67,10 @@ module _ (s : Screen) where
   numbers = numbers_refusal s.a s.b s.n s.k s.g
 
   -- the limits of its numbers, from the tests, and the tests from the limits
-  pub limits_of : numbers ≡ 0 → Limits s
+  pub limits_of : 0 ≡ numbers → Limits s
   unfolding numbers_refusal slope_admitted cells_admitted subscreens_admitted offset_admitted
   limits_of e =
-      let one = unless_none (slope_admitted s.a s.b) 0 _ e in
+      let one = unless_none (slope_admitted s.a s.b) 0 _ (sym e) in
       let two = unless_none (cells_admitted s.n) 1 _ one.1 in
       let three = unless_none (subscreens_admitted s.n s.k) 2 _ two.1 in
       let four = unless_none (offset_admitted s.n s.g) 3 _ three.1 in
@@ -157,6 +156,10 @@ module _ (s : Screen) where
   unfolding refusal_of
   refused_numbers h = sym (refused_first numbers _ h)
 
+  pub error_numbers : (e : Refusal) → number e ≡ numbers → number e ≡ refusal_of s
+  unfolding refusal_of
+  error_numbers e same = error_first e numbers _ same
+
   module _ (e : numbers ≡ 0) where
     pub refused_15 : stored_true s ≡ false → 15 ≡ refusal_of s
     unfolding refusal_of
@@ -174,7 +177,7 @@ module _ (s : Screen) where
       (parts.0, (unless_none (stored_true s) 14 0 parts.1).0)
 
   pub limits_kept : Admitted s → Limits s
-  limits_kept e = limits_of (admitted_parts e).0
+  limits_kept e = limits_of (sym (admitted_parts e).0)
 
   pub stored_kept : Admitted s → Stored s
   stored_kept e = stored_of (admitted_parts e).1
@@ -185,9 +188,9 @@ admitted_words s = (limits_kept s, stored_kept s, λ l t. sym (stored_admitted s
 -- ---- 5: a place off the sheet
 
 module _ (s : Screen) (x y : ℕ) where
-  pub place_refused : (refusal_of s ≡ 0 → ⊥) → refusal_of s ≡ place_refusal s x y
+  pub place_refused : (e : Refusal) → number e ≡ refusal_of s → number e ≡ place_refusal s x y
   unfolding place_refusal
-  place_refused h = sym (refused_first (refusal_of s) _ h)
+  place_refused e same = error_first e (refusal_of s) _ same
 
   module _ (e : refusal_of s ≡ 0) where
     pub column_off : 65536 ≤ x → 5 ≡ place_refusal s x y
@@ -217,6 +220,10 @@ module _ (s : Screen) (places : ℕ) where
   unfolding buffer_refusal
   buffer_refused h = sym (refused_first (refusal_of s) _ h)
 
+  pub buffer_error : (e : Refusal) → number e ≡ refusal_of s → number e ≡ buffer_refusal s places
+  unfolding buffer_refusal
+  buffer_error e same = error_first e (refusal_of s) _ same
+
   pub buffer_short : refusal_of s ≡ 0 → places < s.n → 8 ≡ buffer_refusal s places
   unfolding buffer_refusal
   buffer_short e h = sym (refused_later (refusal_of s) _ e ∙ rw (lt-leb _ _ h))
@@ -241,19 +248,49 @@ module _ (s : Screen) (x y : ℕ) where
   place_answered = (refl, λ e. ((or_none _ _ e).0, answered_whole (place_refusal s x y) (phase s x y) e))
 
 module _ (s : Screen) where
-  pub brick_none : (refusal_of s ≡ 0 → ⊥) → ◌≡◌ {A = Brick} (record { refusal = refusal_of s; columns = 0; rows = 0; shift = 0 }) (brick_of s)
+  pub brick_none : (refusal_of s ≡ 0 → ⊥) → ◌≡◌ {A = BrickAnswer} (record { refusal = refusal_of s; columns = 0; rows = 0; shift = 0 }) (brick_of s)
   unfolding brick_of
   brick_none h = rw (answered_none (refusal_of s) s.columns h, answered_none (refusal_of s) s.rows h, answered_none (refusal_of s) s.shift h)
 
-  pub brick_whole : refusal_of s ≡ 0 → ◌≡◌ {A = Brick} (record { refusal = 0; columns = s.columns; rows = s.rows; shift = s.shift }) (brick_of s)
+  pub brick_whole : refusal_of s ≡ 0 → ◌≡◌ {A = BrickAnswer} (record { refusal = 0; columns = s.columns; rows = s.rows; shift = s.shift }) (brick_of s)
   unfolding brick_of
   brick_whole e = rw (answered_whole (refusal_of s) s.columns e, answered_whole (refusal_of s) s.rows e, answered_whole (refusal_of s) s.shift e, e)
 
 module _ (s : Screen) (buffer : List ℕ) where
-  pub filled_none : (buffer_refusal s (length buffer) ≡ 0 → ⊥) → buffer ≡ filled s buffer
-  unfolding filled
-  filled_none h = sym (written_none (buffer_refusal s (length buffer)) (brick_phases s) buffer h)
-
   pub filled_whole : buffer_refusal s (length buffer) ≡ 0 → filled s buffer ≡ brick_phases s ++ drop s.n buffer
   unfolding filled brick_phases
   filled_whole e = written_whole (buffer_refusal s (length buffer)) (brick_phases s) buffer s.n e (upto_length _ s.n)
+
+  filled_none : 0 < buffer_refusal s (length buffer) → buffer ≡ filled s buffer
+  unfolding filled
+  filled_none above = refused_written (buffer_refusal s (length buffer)) (brick_phases s) buffer above
+
+  pub filled_refused : 0 < refusal_of s → buffer ≡ filled s buffer
+  filled_refused above = filled_none (omega (arith, above, buffer_refused s (length buffer) (λ z. omega (arith, above, z))))
+
+  pub filled_short : refusal_of s ≡ 0 → length buffer < s.n → buffer ≡ filled s buffer
+  filled_short e short = filled_none (omega (arith, buffer_short s (length buffer) e short))
+
+  pub filled_served : refusal_of s ≡ 0 → s.n ≤ length buffer → brick_phases s ++ drop s.n buffer ≡ filled s buffer
+  filled_served e room = sym (filled_whole (sym (buffer_fits s (length buffer) e room)))
+
+-- ---- the limits that the functions below a call ask for, by what the call has tested
+
+-- of five numbers that are not refused, those that make a brick
+pub brick_limits : (a b n k g : ℕ) → 0 ≡ numbers_refusal a b n k g → (0 < a) × (a < b) × (b ≤ 64) × (0 < n) × (n ≤ 4096)
+brick_limits a b n k g e =
+    let limits = limits_of (screen_of a b n k g) e in
+    (limits.slope_above, limits.slope_below, limits.slope_limit, limits.cells_above, limits.cells_limit)
+
+module _ (s : Screen) (e : 0 ≡ refusal_of s) where
+  -- of an admitted screen, those of a phase
+  pub phase_limits : (s.a ≤ 64) × (s.b ≤ 64) × (0 < s.n) × (s.n ≤ 4096) × (s.g < s.n)
+  phase_limits =
+      let limits = limits_kept s (sym e) in
+      (omega (arith, limits.slope_below, limits.slope_limit), limits.slope_limit, limits.cells_above, limits.cells_limit, limits.offset_below)
+
+  -- and those of the brick that is filled
+  pub fill_limits : {places : ℕ} → s.n ≤ places → (0 < s.n) × (s.n ≤ 4096) × (s.g < s.n) × (s.columns ≡ columns_of s.a s.n) × (s.n ≤ places)
+  fill_limits room =
+      let limits = limits_kept s (sym e) in
+      (limits.cells_above, limits.cells_limit, limits.offset_below, (stored_kept s (sym e)).columns_true, room)

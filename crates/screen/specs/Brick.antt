@@ -20,8 +20,19 @@ columns s = columns_of s.a s.n
 abbrev pub shift : Screen → ℕ
 shift s = shift_of s.a s.b s.n
 
+-- the brick that a screen stores
+abbrev pub stored_brick : Screen → Brick
+stored_brick s = record { columns = s.columns; rows = s.rows; shift = s.shift }
+
+-- what is answered where a brick is asked for: its numbers, 0 where the call is refused
+pub record BrickAnswer : Type 0 where
+  pub refusal : ℕ
+  pub columns : ℕ
+  pub rows : ℕ
+  pub shift : ℕ
+
 -- rule 3.5, what `brick_of` answers: the numbers that the screen stores
-unfoldable pub brick_of : Screen → Brick
+unfoldable pub brick_of : Screen → BrickAnswer
 brick_of s =
     record {
       refusal = refusal_of s;

@@ -3,8 +3,7 @@
 use Rattle.std.specs.Prelude.{ℕ, ◌+◌, ◌*◌}
 use Rattle.arith.specs.Remainder.{remainder_of}
 use Rattle.screen.specs.declared.Screen.{Screen}
-use Rattle.screen.specs.declared.making.Made.{Made}
-use Rattle.screen.specs.Made.{offset_replaced}
+use Rattle.screen.specs.Made.{Made, offset_replaced}
 
 -- rule 19.1: the offset as seen from column x and row y, (g − a × x − b × y) mod N
 unfoldable pub offset_of : ℕ → ℕ → ℕ → ℕ → ℕ → ℕ → ℕ

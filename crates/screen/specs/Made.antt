@@ -4,8 +4,12 @@ use Rattle.std.specs.Prelude.{ℕ, cond, eqb}
 use mathlib.Core.List.{List, foldl}
 use Rattle.arith.specs.Refusal.{or_else}
 use Rattle.screen.specs.declared.Screen.{Screen}
-use Rattle.screen.specs.declared.making.Made.{Made}
 use Rattle.screen.specs.Screens.{screen_of, numbers_refusal, refusal_of}
+
+-- what is answered where a screen is asked for: a refusal, 0 where there is none, and a screen
+pub record Made : Type 0 where
+  pub refusal : ℕ
+  pub screen : Screen
 
 -- an answer, given its refusal: the new screen where there is none, and else another
 abbrev pub handed_back : ℕ → Screen → Screen → Made

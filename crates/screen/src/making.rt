@@ -1,102 +1,60 @@
 // Making a screen, and replacing a number of one (rules 17.2 to 17.5).
 ghost use Rattle.std.specs.Prelude.{◌≡◌, ◌≤◌, ◌<◌};
+ghost use Rattle.std.specs.Result.{result_unwrap_or};
+ghost use Rattle.arith.specs.Refusal.{number_of};
 ghost use Rattle.screen.specs.Sizes.{rows_of, shift_of};
 ghost use Rattle.screen.specs.Screens.{screen_of};
-ghost use Rattle.screen.specs.Made.{made_of, replaced_by, offset_replaced, subscreens_replaced, cells_replaced};
+ghost use Rattle.screen.specs.Made.{no_screen, made_of, replaced_by, offset_replaced, subscreens_replaced, cells_replaced};
 
-use crate::{Screen, numbers_refusal, refusal};
+use crate::{Screen, check, check_numbers};
+use arith::Refusal;
 
-// A screen, and the number of what refuses the call that hands it back.
-#[derive(Clone, Copy)]
-pub struct Made {
-    pub refusal: u32,
-    pub screen: Screen,
-}
-
-// The screen of five numbers, with those of its brick; eight zeros where the five are refused.
-pub fn make(a: u32, b: u32, n: u32, k: u32, g: u32) -> Made
-    ensures { result ≡ made_of a b n k g }
+// The screen of five numbers, with those of its brick.
+#[tactic(auto, using(arith::proofs::RefusalLaws::number_above, crate::proofs::Refusals::brick_limits, crate::proofs::MadeLaws::made_number, crate::proofs::MadeLaws::made_none, crate::proofs::MadeLaws::made_served))]
+pub fn make(a: u32, b: u32, n: u32, k: u32, g: u32) -> Result<Screen, Refusal>
+    ensures refused { number_of result ≡ (made_of a b n k g).refusal }
+    ensures screen { result_unwrap_or result no_screen ≡ (made_of a b n k g).screen }
 {
-    let refused = numbers_refusal(a, b, n, k, g);
-    if refused != 0 {
-        return Made {
-            refusal: refused,
-            screen: Screen {
-                a: 0,
-                b: 0,
-                n: 0,
-                k: 0,
-                g: 0,
-                columns: 0,
-                rows: 0,
-                shift: 0,
-            },
-        };
-    }
-    Made {
-        refusal: 0,
-        screen: screen_of(a, b, n, k, g),
-    }
+    check_numbers(a, b, n, k, g)?;
+    Ok(screen_of(a, b, n, k, g))
 }
 
-// A screen with another offset, or the screen that was handed in.
-pub fn replace_offset(s: Screen, g: u32) -> Made
-    ensures { result ≡ offset_replaced s g }
+// A screen with another offset.
+pub fn replace_offset(s: Screen, g: u32) -> Result<Screen, Refusal>
+    ensures refused { number_of result ≡ (offset_replaced s g).refusal }
+    ensures screen { result_unwrap_or result s ≡ (offset_replaced s g).screen }
 {
     replaced_by(s, s.n, s.k, g)
 }
 
-// A screen with another number of subscreens, or the screen that was handed in.
-pub fn replace_subscreens(s: Screen, k: u32) -> Made
-    ensures { result ≡ subscreens_replaced s k }
+// A screen with another number of subscreens.
+pub fn replace_subscreens(s: Screen, k: u32) -> Result<Screen, Refusal>
+    ensures refused { number_of result ≡ (subscreens_replaced s k).refusal }
+    ensures screen { result_unwrap_or result s ≡ (subscreens_replaced s k).screen }
 {
     replaced_by(s, s.n, k, s.g)
 }
 
-// A screen with another cell count and the brick that follows from it, or the screen that was handed in.
-pub fn replace_cells(s: Screen, n: u32) -> Made
-    ensures { result ≡ cells_replaced s n }
+// A screen with another cell count and the brick that follows from it.
+pub fn replace_cells(s: Screen, n: u32) -> Result<Screen, Refusal>
+    ensures refused { number_of result ≡ (cells_replaced s n).refusal }
+    ensures screen { result_unwrap_or result s ≡ (cells_replaced s n).screen }
 {
     replaced_by(s, n, s.k, s.g)
 }
 
 // A screen with three numbers in place of its own. The brick is worked out anew only for another cell count.
-fn replaced_by(s: Screen, n: u32, k: u32, g: u32) -> Made
-    ensures { result ≡ replaced_by s n k g }
+#[tactic(auto, using(arith::proofs::RefusalLaws::number_above, crate::proofs::Refusals::brick_limits, crate::proofs::MadeLaws::replaced_old, crate::proofs::MadeLaws::replaced_number, crate::proofs::MadeLaws::replaced_old_none, crate::proofs::MadeLaws::replaced_new_none, crate::proofs::MadeLaws::replaced_served, crate::proofs::MadeLaws::replaced_beside))]
+fn replaced_by(s: Screen, n: u32, k: u32, g: u32) -> Result<Screen, Refusal>
+    ensures refused { number_of result ≡ (replaced_by s n k g).refusal }
+    ensures screen { result_unwrap_or result s ≡ (replaced_by s n k g).screen }
 {
-    let refused = refusal(s);
-    if refused != 0 {
-        return Made {
-            refusal: refused,
-            screen: s,
-        };
-    }
-    let later = numbers_refusal(s.a, s.b, n, k, g);
-    if later != 0 {
-        return Made {
-            refusal: later,
-            screen: s,
-        };
-    }
+    check(s)?;
+    check_numbers(s.a, s.b, n, k, g)?;
     if s.n != n {
-        return Made {
-            refusal: 0,
-            screen: screen_of(s.a, s.b, n, k, g),
-        };
+        return Ok(screen_of(s.a, s.b, n, k, g));
     }
-    Made {
-        refusal: 0,
-        screen: Screen {
-            a: s.a,
-            b: s.b,
-            n: n,
-            k: k,
-            g: g,
-            columns: s.columns,
-            rows: s.rows,
-            shift: s.shift,
-        },
-    }
+    Ok(Screen { k, g, ..s })
 }
 
 // The screen of five admitted numbers.
@@ -106,13 +64,13 @@ fn screen_of(a: u32, b: u32, n: u32, k: u32, g: u32) -> Screen
 {
     let rows = arith::gcd(a, n);
     Screen {
-        a: a,
-        b: b,
-        n: n,
-        k: k,
-        g: g,
+        a,
+        b,
+        n,
+        k,
+        g,
         columns: n / rows,
-        rows: rows,
+        rows,
         shift: shift_of(a, b, n, rows),
     }
 }

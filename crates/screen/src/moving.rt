@@ -1,37 +1,22 @@
 // A screen as it is seen from another corner (rules 19.1 and 19.2).
 ghost use Rattle.std.specs.Prelude.{◌≡◌, ◌≤◌, ◌<◌};
+ghost use Rattle.std.specs.Result.{result_unwrap_or};
+ghost use Rattle.arith.specs.Refusal.{number_of};
 ghost use Rattle.screen.specs.Corner.{offset_of, moved_to};
 
-use crate::bricks::carry;
-use crate::making::Made;
-use crate::{Screen, refusal};
+use crate::{Screen, check};
+use arith::{Refusal, carry};
 
 // The screen whose phase at each place is that of the screen that is handed in, x columns further to the
-// right and y rows further down; or the screen that was handed in.
-#[tactic(auto, using(crate::proofs::CornerLaws::moved_old, crate::proofs::CornerLaws::moved_served))]
-pub fn moved(s: Screen, x: u64, y: u64) -> Made
-    ensures { result ≡ moved_to s x y }
+// right and y rows further down.
+#[tactic(auto, using(arith::proofs::RefusalLaws::number_above, crate::proofs::Refusals::phase_limits, crate::proofs::CornerLaws::moved_old, crate::proofs::CornerLaws::moved_none, crate::proofs::CornerLaws::moved_unrefused, crate::proofs::CornerLaws::moved_screen))]
+pub fn moved(s: Screen, x: u64, y: u64) -> Result<Screen, Refusal>
+    ensures refused { number_of result ≡ (moved_to s x y).refusal }
+    ensures screen { result_unwrap_or result s ≡ (moved_to s x y).screen }
 {
-    let refused = refusal(s);
-    if refused != 0 {
-        return Made {
-            refusal: refused,
-            screen: s,
-        };
-    }
-    Made {
-        refusal: 0,
-        screen: Screen {
-            a: s.a,
-            b: s.b,
-            n: s.n,
-            k: s.k,
-            g: offset_of(s.a, s.b, s.n, s.g, x, y),
-            columns: s.columns,
-            rows: s.rows,
-            shift: s.shift,
-        },
-    }
+    check(s)?;
+    let g = offset_of(s.a, s.b, s.n, s.g, x, y);
+    Ok(Screen { g, ..s })
 }
 
 // The remainder by n of g - a * x - b * y. Columns and rows are reduced by n first, so that no corner is too

@@ -1,50 +1,31 @@
 // The phase of a place.
-ghost use Rattle.std.specs.Prelude.{◌≡◌, ◌≤◌, ◌<◌};
-ghost use Rattle.screen.specs.Phase.{phase_of, place_refusal, place_of};
+ghost use Rattle.std.specs.Prelude.{◌≡◌, ◌≤◌, ◌<◌, IfOk};
+ghost use Rattle.arith.specs.Refusal.{number_of};
+ghost use Rattle.screen.specs.Phase.{phase_of, phase, place_refusal};
 
-use crate::bricks::carry;
-use crate::{Screen, refusal};
-
-// The phase of a place, or the number of what refuses it.
-#[derive(Clone, Copy)]
-pub struct Place {
-    pub refusal: u32,
-    pub phase: u32,
-}
+use crate::{Screen, check};
+use arith::{Refusal, carry};
 
 // The phase of the place in column x and row y of the sheet.
-pub fn phase_at(s: Screen, x: u32, y: u32) -> Place
-    ensures { result ≡ place_of s x y }
+#[tactic(auto, using(crate::proofs::Refusals::place_kept))]
+pub fn phase_at(s: Screen, x: u32, y: u32) -> Result<u32, Refusal>
+    ensures refused { number_of result ≡ place_refusal s x y }
+    ensures phase { IfOk result (λ p. p ≡ phase s x y) }
 {
-    let refused = place_refusal(s, x, y);
-    if refused != 0 {
-        return Place {
-            refusal: refused,
-            phase: 0,
-        };
-    }
-    Place {
-        refusal: 0,
-        phase: phase_of(s.a, s.b, s.n, s.g, x, y),
-    }
+    check_place(s, x, y)?;
+    Ok(phase_of(s.a, s.b, s.n, s.g, x, y))
 }
 
-// The refusal of a place: that of the screen, else 5 where the place is off the sheet.
+// Whether a place has a phase: the refusal of the screen, else 5 where the place is off the sheet.
 #[tactic(auto, using(crate::proofs::Refusals::place_refused, crate::proofs::Refusals::column_off, crate::proofs::Refusals::row_off, crate::proofs::Refusals::place_on))]
-fn place_refusal(s: Screen, x: u32, y: u32) -> u32
-    ensures { result ≡ place_refusal s x y }
+fn check_place(s: Screen, x: u32, y: u32) -> Result<(), Refusal>
+    ensures { number_of result ≡ place_refusal s x y }
 {
-    let refused = refusal(s);
-    if refused != 0 {
-        return refused;
+    check(s)?;
+    if 65536 <= x || 65536 <= y {
+        return Err(Refusal::OffSheet);
     }
-    if 65536 <= x {
-        return 5;
-    }
-    if 65536 <= y {
-        return 5;
-    }
-    0
+    Ok(())
 }
 
 // The remainder by n of a * x + b * y - g. Instead of taking g off, what it lacks to n is added, so that

@@ -25,8 +25,5 @@ overflow_add-along c =
 pub overflow_sub-n : goal.overflow_sub-n
 overflow_sub-n c = le_of_lt (mod-lt _ c.requires.2)
 
-pub carry-requires : goal.carry-requires
-carry-requires c = (c.requires.4, sub-le _ _, c.requires.3)
-
 pub returns : goal.returns
-returns c = c.carry.ensures.0 ∙ offset_lacking _ _ _ _ c.requires.2 _ _ c.requires.4
+returns c = (c.carry.ensures c.requires.4 (sub-le _ _)).0 ∙ offset_lacking _ _ _ _ c.requires.2 _ _ c.requires.4

@@ -18,8 +18,5 @@ overflow_sub-down c = omega arith
 pub overflow_add-down : goal.overflow_add-down
 overflow_add-down c = omega (arith, mul-le-mul c.requires.1 (le_of_lt c.requires.6))
 
-pub carry-requires : goal.carry-requires
-carry-requires c = (mod-lt _ c.requires.2, le_of_lt (mod-lt _ c.requires.2), c.requires.3)
-
 pub returns : goal.returns
-returns c = c.carry.ensures.0 ∙ phase_apart _ _ _ _ c.requires.2 _ _ _ (omega (arith, c.requires.4))
+returns c = (c.carry.ensures (mod-lt _ c.requires.2) (le_of_lt (mod-lt _ c.requires.2))).0 ∙ phase_apart _ _ _ _ c.requires.2 _ _ _ (omega (arith, c.requires.4))
