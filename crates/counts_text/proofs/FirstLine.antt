@@ -7,16 +7,16 @@ use mathlib.Core.List.{List, [], ◌∷◌, ◌++◌}
 use native.Mathlib.Omega.{arith}
 use lib.ListN.{length, get_or}
 use borrow.Author.Tests.{lt-ltb, ltb-true}
-use Rattle.std.specs.Prelude.{Option, Some, None}
+use Rattle.std.specs.Prelude.{Some, None}
 use Rattle.arith.specs.Run.{upto}
 use Rattle.arith.proofs.RunLaws.{upto_at}
 use Rattle.screen.specs.Screens.{refusal_of}
 use Rattle.separation.specs.declared.Separation.{Separation}
 use Rattle.counts_text.specs.Text.{newline, split, lines, line_at, fields}
-use Rattle.counts_text.specs.Lines.{are_numbers, number_at, is_screen, screen_in, screen_by, is_patch, separation_in, inks_in, inks_by}
+use Rattle.counts_text.specs.Lines.{are_numbers, number_at, is_screen, screen_in, screen_by, separation_in, inks_in, inks_by}
 use Rattle.counts_text.specs.Program.{line_refusal}
 use Rattle.counts_text.specs.Parsers.{head_s, head_p, Parted, Patch}
-use Rattle.counts_text.proofs.SplitLaws.{some_piece, parted_count}
+use Rattle.counts_text.proofs.SplitLaws.{parted_count}
 use Rattle.counts_text.proofs.LineLaws.{number_limit}
 use Rattle.counts_text.proofs.HeadLaws.{screen_headed, screen_head, patch_headed, patch_head}
 use Rattle.counts_text.proofs.JudgeLaws.{first_unended, first_other, first_screen}

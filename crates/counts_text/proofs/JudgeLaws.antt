@@ -1,30 +1,26 @@
 -- What refuses a line, from what its parser answers.
 -- Assumes nothing.
-use Prim.Native.Nat.{ℕ, suc, ◌+◌, ◌-◌, ◌≤◌, ◌<◌}
+use Prim.Native.Nat.{ℕ, suc, ◌+◌, ◌≤◌, ◌<◌}
 use mathlib.Core.Path.{◌≡◌, refl, sym, ap, ◌∙◌, subst}
 use mathlib.Core.Bool.{Bool, true, false, not, cond, ◌&&◌, true≢false}
 use mathlib.Core.Logic.{◌⊎◌, inl, inr}
 use mathlib.Core.List.{List, [], ◌∷◌}
-use native.Mathlib.Nat.{eq-or-lt_of_le, zero-add}
+use native.Mathlib.Nat.{eq-or-lt_of_le}
 use native.Mathlib.Decide.{dec_lt}
 use native.Mathlib.Numerals.{add-one}
 use native.Mathlib.Omega.{arith}
-use lib.ListN.{length, take, drop, length-drop}
-use lib.Seq.{drop-length}
+use lib.ListN.{length}
 use lib.Dec.{eqb, leb, ltb}
 use borrow.Author.Tests.{lt-ltb, le-ltb, ltb-false, le-leb, lt-leb, eq-eqb, ne_eqb}
-use Rattle.arith.proofs.RunLaws.{part_to_end}
 use denote.Ref.{Bor}
 use Rattle.std.specs.Prelude.{Result, Ok, Err, MatchResult}
 use Rattle.screen.specs.declared.Screen.{Screen}
 use Rattle.arith.specs.Refusal.{unless, number}
 use Rattle.arith.specs.declared.refusals.Refusal.{Refusal}
-use Rattle.arith.specs.declared.refusals.Refusal.TheVariants.{Slope, CellCount, Subscreens, Offset, OffSheet, InputLength, OutputLength, Brick, Plates, Form, Primary, Price, Job, PrimariesLength, Stored}
+use Rattle.arith.proofs.RefusalLaws.{number_above}
 use Rattle.counts_text.specs.declared.judging.BadLine.{BadLine}
 use Rattle.arith.proofs.FirstLaws.{first_is}
 use Rattle.screen.specs.Screens.{refusal_of}
-use Rattle.separation.specs.declared.Separation.{Separation}
-use Rattle.separation.specs.declared.Inks.{Inks}
 use Rattle.counts_text.specs.Text.{split, newline, lines, line_at}
 use Rattle.counts_text.specs.Lines.{is_screen, screen_in, screen_refusal, is_patch, patch_refusal}
 use Rattle.counts_text.specs.Program.{ended, line_refusal, first_bad}
@@ -197,24 +193,6 @@ module _ {text rest : List ℕ} {line : ℕ} (p : PatchesAt text rest line) wher
       go : (line ≡ 1) ⊎ (0 < length rest) → Judged text 258 10
       go (inl e) = absurd (omega arith)
       go (inr short) = bad_line at_257 10 (surplus at_257.here (omega arith) (omega arith) short) (omega arith)
-
--- the number of a refusal is not 0
-number_above : (refusal : Refusal) → 0 < number refusal
-number_above Slope = omega arith
-number_above CellCount = omega arith
-number_above Subscreens = omega arith
-number_above Offset = omega arith
-number_above OffSheet = omega arith
-number_above InputLength = omega arith
-number_above OutputLength = omega arith
-number_above Brick = omega arith
-number_above Plates = omega arith
-number_above Form = omega arith
-number_above Primary = omega arith
-number_above Price = omega arith
-number_above Job = omega arith
-number_above PrimariesLength = omega arith
-number_above Stored = omega arith
 
 -- the first line is good
 pub good_screen : (text : List ℕ) (read : Result (Screen × Bor (List ℕ)) Refusal) (found : Screen × Bor (List ℕ)) → ScreenSays text read

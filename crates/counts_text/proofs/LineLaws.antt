@@ -1,23 +1,18 @@
 -- What the form of a line says of its fields: numbers keep their limit, a line of several words begins with them.
 -- Assumes nothing.
-use Prim.Native.Nat.{ℕ, ◌-◌, ◌≤◌, ◌<◌}
-use mathlib.Core.Path.{◌≡◌, refl, sym, ap, ◌∙◌}
-use mathlib.Core.Bool.{Bool, true, false, not, false≢true}
-use mathlib.Core.List.{List, [], ◌∷◌, ◌++◌, append-nil}
-use native.Mathlib.Omega.{arith}
-use lib.ListN.{length, get_or, take, drop, take-append-drop, length-take}
-use lib.Seq.{drop-length}
+use Prim.Native.Nat.{ℕ, ◌≤◌, ◌<◌}
+use mathlib.Core.Path.{◌≡◌, refl, ap, ◌∙◌}
+use mathlib.Core.Bool.{true, false≢true}
+use mathlib.Core.List.{List, [], ◌∷◌, ◌++◌}
+use lib.ListN.{length, get_or, drop}
 use lib.Dec.{eqb, leb}
 use borrow.Author.Tests.{eqb-true, leb-true}
-use Rattle.arith.proofs.RunLaws.{part_to_end}
 use Rattle.arith.specs.Every.{every}
-use Rattle.arith.specs.Run.{upto}
-use Rattle.arith.proofs.RefusalLaws.{both_pass, failed, passed}
+use Rattle.arith.proofs.RefusalLaws.{both_pass}
 use Rattle.arith.proofs.EveryLaws.{every_passes}
-use Rattle.arith.proofs.FirstLaws.{first_none}
 use Rattle.counts_text.specs.Text.{tab, fields, field_at, same}
 use Rattle.counts_text.specs.Numbers.{is_number, is_number_to, value_of}
-use Rattle.counts_text.specs.Lines.{are_numbers, number_at, leading, numbers_over}
+use Rattle.counts_text.specs.Lines.{are_numbers, number_at}
 use Rattle.counts_text.proofs.SplitLaws.{split_front}
 
 -- the two halves of each test

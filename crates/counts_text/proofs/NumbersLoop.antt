@@ -12,7 +12,6 @@ use lib.ListN.{length, get_or, set, drop, replicate, length-drop, length-replica
 use borrow.Author.Tests.{ne_eqb, eq-eqb}
 use denote.Ref.{Bor}
 use Rattle.std.specs.Prelude.{Option, Some, None, is_some}
-use Rattle.arith.specs.Every.{every}
 use Rattle.arith.specs.Run.{upto}
 use Rattle.arith.proofs.EveryLaws.{every_made, every_fails}
 use Rattle.arith.proofs.RunLaws.{Filling, filling_start, filling_store}

@@ -5,7 +5,7 @@ use mathlib.Core.Path.{◌≡◌, sym, ap, ◌∙◌}
 use mathlib.Core.List.{List, []}
 use native.Mathlib.Numerals.{one-add}
 use native.Mathlib.Omega.{arith}
-use lib.ListN.{length, get_or, drop, length-drop}
+use lib.ListN.{length, get_or, length-drop}
 use lib.Seq.{get_or-drop}
 use Rattle.screen.specs.declared.Screen.{Screen}
 use borrow.Author.Tests.{lt-ltb, le-ltb}

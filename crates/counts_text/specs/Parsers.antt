@@ -1,7 +1,7 @@
 -- What the parsers answer of the text that they are given: the value at its beginning and the rest of the text, or that its
 -- beginning is not of the form. Each is a statement of a text and an answer, by the cases of the answer.
 -- Assumes nothing.
-use Rattle.std.specs.Prelude.{ℕ, suc, ◌+◌, ◌-◌, ◌≤◌, ◌<◌, ◌≡◌, true, List, [], ◌∷◌, ◌++◌, length, get_or, drop, Option, Some, None, Result, Ok, Err}
+use Rattle.std.specs.Prelude.{ℕ, suc, ◌+◌, ◌≤◌, ◌<◌, ◌≡◌, true, List, [], ◌∷◌, ◌++◌, length, get_or, drop, Option, Some, None, Result, Ok, Err}
 use denote.Ref.{Bor}
 use Rattle.arith.specs.Refusal.{number}
 use Rattle.arith.specs.declared.refusals.Refusal.{Refusal}

@@ -6,9 +6,8 @@ use borrow.Author.Tests.{eqb-true, eqb-false}
 use borrow.Author.Rules.{rules}
 use Rattle.std.proofs.lemmas.Result.{err_from_is_err_and, MatchResult-weaker}
 use Rattle.arith.specs.declared.refusals.Refusal.TheVariants.{Form}
-use Rattle.counts_text.specs.declared.judging.BadLine.{BadLine}
 use Rattle.counts_text.specs.Parsers.{ScreenSays}
-use Rattle.counts_text.proofs.JudgeLaws.{good_screen, bad_screen, patches_start, patches_bad, patches_end, patches_next, patches_surplus}
+use Rattle.counts_text.proofs.JudgeLaws.{good_screen, bad_screen, patches_bad, patches_end, patches_next, patches_surplus}
 use Rattle.counts_text.proofs.judging.judge.Goals as goal
 
 pub returns-in_err-screen : goal.returns-in_err-screen

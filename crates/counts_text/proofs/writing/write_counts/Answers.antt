@@ -1,5 +1,5 @@
 -- `counts_text::writing::write_counts` meets its contract. Assumes nothing.
-use Rattle.counts_text.proofs.CountsLoop.{counts_start, counts_kept, counts_place, counts_end, counts_patch, counts_room, counts_step}
+use Rattle.counts_text.proofs.CountsLoop.{counts_start, counts_room, counts_step}
 use Rattle.counts_text.proofs.writing.write_counts.Goals as goal
 
 pub loop-p-init : goal.loop-p-init
