@@ -5,6 +5,8 @@
 // print.
 #![tactic(auto)]
 
+ghost use Rattle.std.specs.Prelude.{◌≤◌};
+
 // Reads the file stdin, which is no longer than the room for it.
 fn main() {
     let mut input = [0u8; 65536];
@@ -35,7 +37,9 @@ fn show_marked(text: &[u8], mark: u8) {
 }
 
 // Shows a text of so many bytes: those in front, zeros and a newline.
-fn show_filled<const SIZE: usize>(front: &[u8]) {
+fn show_filled<const SIZE: usize>(front: &[u8])
+    requires { SIZE ≤ 65537 }
+{
     let mut text = [b'0'; SIZE];
     for (place, byte) in text.iter_mut().zip(front) {
         *place = *byte;
