@@ -194,6 +194,10 @@ module _ {text rest : List ℕ} {line : ℕ} (p : PatchesAt text rest line) wher
       go (inl e) = absurd (omega arith)
       go (inr short) = bad_line at_257 10 (surplus at_257.here (omega arith) (omega arith) short) (omega arith)
 
+-- a bad line that is answered is that line
+pub same_bad : {T : Type 0} {bad other : BadLine} → ◌≡◌ {A = Result T BadLine} (Err bad) (Err other) → bad ≡ other
+same_bad e = cc
+
 -- the first line is good
 pub good_screen : (text : List ℕ) (read : Result (Screen × Bor (List ℕ)) Refusal) (found : Screen × Bor (List ℕ)) → ScreenSays text read
     → MatchResult read (λ x. ◌≡◌ {A = Result (Screen × Bor (List ℕ)) BadLine} (Ok found) (Ok x)) (λ refusal. ⊥) → ScreenSays text (Ok found)

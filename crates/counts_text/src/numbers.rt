@@ -7,7 +7,6 @@ ghost use Rattle.counts_text.specs.Text.{Wrote};
 ghost use Rattle.counts_text.specs.Numbers.{is_number, is_number_to, value_of, numeral};
 
 // The number that a field is, where it is one and is at most so much.
-#[tactic(auto, unfolding(crate::specs::Numbers::is_number_to))]
 pub(crate) fn number_in(field: &[u8], most: u32) -> Option<u32>
     ensures { result ≡ cond (is_number_to most field.now) (Some (value_of field.now)) None }
 {
@@ -26,7 +25,6 @@ fn all_digits(field: &[u8]) -> bool
 }
 
 // Whether a field is a number: 1 to 5 digits, the first of them 0 only where it is alone.
-#[tactic(auto, using(crate::proofs::NumberLaws::number_told))]
 fn is_number(field: &[u8]) -> bool
     ensures { result ≡ is_number field.now }
 {

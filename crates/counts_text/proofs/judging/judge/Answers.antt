@@ -1,13 +1,12 @@
 -- `counts_text::judging::judge` meets its contract. Assumes nothing.
 use mathlib.Core.Path.{◌≡◌, sym}
-use Rattle.std.specs.Prelude.{◌+◌, Ok, Err, MatchResult}
+use Rattle.std.specs.Prelude.{Ok, Err, MatchResult}
 use native.Mathlib.Omega.{arith}
 use borrow.Author.Tests.{eqb-true, eqb-false}
 use borrow.Author.Rules.{rules}
 use Rattle.std.proofs.lemmas.Result.{err_from_is_err_and, MatchResult-weaker}
-use Rattle.arith.specs.declared.refusals.Refusal.TheVariants.{Form}
 use Rattle.counts_text.specs.Parsers.{ScreenSays}
-use Rattle.counts_text.proofs.JudgeLaws.{good_screen, bad_screen, patches_bad, patches_end, patches_next, patches_surplus}
+use Rattle.counts_text.proofs.JudgeLaws.{same_bad, good_screen, bad_screen, patches_bad, patches_end, patches_next, patches_surplus}
 use Rattle.counts_text.proofs.judging.judge.Goals as goal
 
 pub returns-in_err-screen : goal.returns-in_err-screen
@@ -21,8 +20,7 @@ pub returns-in_err-patch : goal.returns-in_err-patch
 returns-in_err-patch c =
     let p = err_from_is_err_and c.from_residual-in_err-patch.result c.from_residual-in_err-patch.ensures.1 in
     let told = rw c.in_err-patch.ensures.ok_part at c.in_err-patch.ensures.value in
-    let bad : c.in_err-patch.field-0.0 ≡ record { line = c.loop-line.line + 1; refusal = Form } = cc in
-    rw (p.1, p.2, bad) (patches_bad c.loop-line.invariant c.loop-line-test.true (rw c.in_err-patch.ensures.ok_part at c.patch_line.ensures))
+    rw (p.1, p.2, same_bad told) (patches_bad c.loop-line.invariant (omega (arith, c.loop-line-test.true)) (rw c.in_err-patch.ensures.ok_part at c.patch_line.ensures))
 
 pub returns-then-is_empty : goal.returns-then-is_empty
 returns-then-is_empty c =
@@ -30,12 +28,12 @@ returns-then-is_empty c =
     good_screen _ c.screen_line.result _ c.screen_line.ensures (MatchResult-weaker c.screen_line.result c.in_ok-screen.ensures.cases (λ x q. q) (λ e q. search rules)) in
     let read = rw c.in_ok-patch.ensures.ok_part at c.patch_line.ensures in
     let end = eqb-true _ _ (sym c.if-is_empty.ensures) in
-    (patches_end c.loop-line.invariant c.loop-line-test.true read.0 read.3 end, says.1, says.2, says.3)
+    (patches_end c.loop-line.invariant (omega (arith, c.loop-line-test.true)) read.0 read.3 end, says.1, says.2, says.3)
 
 pub loop-line-preserved : goal.loop-line-preserved
 loop-line-preserved c =
     let read = rw c.in_ok-patch.ensures.ok_part at c.patch_line.ensures in
-    patches_next c.loop-line.invariant c.loop-line-test.true read.0 read.3 (λ z. omega (arith, z, eqb-false _ _ (sym c.if-is_empty.ensures)))
+    patches_next c.loop-line.invariant (omega (arith, c.loop-line-test.true)) read.0 read.3 (λ z. omega (arith, z, eqb-false _ _ (sym c.if-is_empty.ensures)))
 
 pub returns : goal.returns
 returns c = patches_surplus c.loop-line.invariant c.loop-line-test.false
