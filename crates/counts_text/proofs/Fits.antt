@@ -88,7 +88,7 @@ module _ (text : List ℕ) (good : (i : ℕ) → i < length (lines text) → lin
       go (yes l) = l
       go (no h) = absurd (omega (arith, rw (lt-ltb 258 (length (lines text)) (omega arith)) at (good 257 (omega arith))))
 
-  patches : (i : ℕ) → i < length (lines text) - 2 → is_patch (line_at text (suc i)) ≡ true
+  pub patches : (i : ℕ) → i < length (lines text) - 2 → is_patch (line_at text (suc i)) ≡ true
   unfolding line_refusal patch_refusal
   patches i l =
       (unless_none (is_patch (line_at text (suc i))) 9 0

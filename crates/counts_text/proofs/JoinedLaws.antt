@@ -1,6 +1,6 @@
 -- Laws of `joined`. Assumes nothing.
 use Prim.Native.Nat.{ℕ, zero, suc, ◌+◌, ◌*◌, ◌≤◌, ◌<◌}
-use mathlib.Core.Path.{◌≡◌}
+use mathlib.Core.Path.{◌≡◌, refl}
 use mathlib.Core.Logic.{◌⊎◌, inl, inr}
 use mathlib.Core.List.{List, ◌++◌}
 use native.Mathlib.Nat.{le_refl, eq-or-lt_of_le}
@@ -13,6 +13,12 @@ use Rattle.counts_text.specs.Text.{joined}
 pub joined_next : (n : ℕ) (run : ℕ → List ℕ) → joined (n + 1) run ≡ joined n run ++ run n
 unfolding joined
 joined_next n run = rw add-one
+
+-- the runs decide it
+pub joined_same : (n : ℕ) (run other : ℕ → List ℕ) → ((i : ℕ) → i < n → run i ≡ other i) → joined n run ≡ joined n other
+unfolding joined
+joined_same zero run other same = refl
+joined_same (suc n) run other same = rw (joined_same n run other (λ i l. same i (omega arith)), same n (omega arith))
 
 -- runs of at most so many bytes
 pub joined_limit : (n most : ℕ) (run : ℕ → List ℕ) → ((i : ℕ) → i < n → length (run i) ≤ most) → length (joined n run) ≤ most * n

@@ -1,29 +1,30 @@
 -- What refuses a line, from what its parser answers.
 -- Assumes nothing.
-use Prim.Native.Nat.{ℕ, suc, ◌+◌, ◌-◌, ◌≤◌, ◌<◌}
+use Prim.Native.Nat.{ℕ, suc, ◌+◌, ◌≤◌, ◌<◌}
 use mathlib.Core.Path.{◌≡◌, refl, sym, ap, ◌∙◌, subst}
 use mathlib.Core.Bool.{Bool, true, false, not, cond, ◌&&◌, true≢false}
 use mathlib.Core.Logic.{◌⊎◌, inl, inr}
-use mathlib.Core.List.{List, []}
-use native.Mathlib.Nat.{eq-or-lt_of_le, zero-add}
+use mathlib.Core.List.{List, [], ◌∷◌}
+use native.Mathlib.Nat.{eq-or-lt_of_le}
 use native.Mathlib.Decide.{dec_lt}
 use native.Mathlib.Numerals.{add-one}
 use native.Mathlib.Omega.{arith}
-use lib.ListN.{length, take, drop, length-drop}
-use lib.Seq.{drop-length}
+use lib.ListN.{length}
 use lib.Dec.{eqb, leb, ltb}
 use borrow.Author.Tests.{lt-ltb, le-ltb, ltb-false, le-leb, lt-leb, eq-eqb, ne_eqb}
-use Rattle.arith.proofs.RunLaws.{part_to_end}
-use Rattle.arith.specs.Refusal.{unless}
+use denote.Ref.{Bor}
+use Rattle.std.specs.Prelude.{Result, Ok, Err, MatchResult}
+use Rattle.screen.specs.declared.Screen.{Screen}
+use Rattle.arith.specs.Refusal.{unless, number}
+use Rattle.arith.specs.declared.refusals.Refusal.{Refusal}
+use Rattle.arith.proofs.RefusalLaws.{number_above}
+use Rattle.counts_text.specs.declared.judging.BadLine.{BadLine}
 use Rattle.arith.proofs.FirstLaws.{first_is}
 use Rattle.screen.specs.Screens.{refusal_of}
-use Rattle.separation.specs.declared.Separation.{Separation}
-use Rattle.separation.specs.declared.Inks.{Inks}
-use Rattle.counts_text.specs.declared.parsers.PatchLine.TheVariants.{PatchRead, PatchRefused}
 use Rattle.counts_text.specs.Text.{split, newline, lines, line_at}
 use Rattle.counts_text.specs.Lines.{is_screen, screen_in, screen_refusal, is_patch, patch_refusal}
 use Rattle.counts_text.specs.Program.{ended, line_refusal, first_bad}
-use Rattle.counts_text.specs.Parsers.{Parted, Patch, PatchSays, Accepted, Judged}
+use Rattle.counts_text.specs.Parsers.{Parted, ScreenSays, Patch, Accepted, Judged}
 use Rattle.counts_text.proofs.SplitLaws.{Reached, reached_start, reached_piece, reached_count, reached_next, some_piece, only_piece}
 
 -- ---- the first line
@@ -43,9 +44,9 @@ module _ (text : List ℕ) where
 
 -- ---- the lines after it
 
--- lines before line i are good, and line i begins at place `at`
-pub record JudgedTo (text : List ℕ) (at i : ℕ) : Type 0 where
-  pub here : Reached newline text at i
+-- lines before line i are good, and line i is the first of the rest
+pub record JudgedTo (text rest : List ℕ) (i : ℕ) : Type 0 where
+  pub here : Reached newline text rest i
   pub good : (k : ℕ) → k < i → line_refusal text k ≡ 0
 
 -- one more good line
@@ -64,6 +65,10 @@ either_false true u (inl e) = absurd (true≢false e)
 either_false true u (inr e) = e
 either_false false u e = refl
 
+nothing : (xs : List ℕ) → length xs ≡ 0 → xs ≡ []
+nothing [] e = refl
+nothing (x ∷ xs) e = absurd (omega arith)
+
 -- what refuses line i, i not 0, where the rest of the text begins with it
 abbrev rest_refusal : ℕ → List ℕ → ℕ
 rest_refusal i rest =
@@ -76,9 +81,9 @@ shifted i m = go (dec_lt 1 m)
     go (yes l) = lt-ltb (suc i) (i + m) (omega arith) ∙ sym (lt-ltb 1 m l)
     go (no h) = le-ltb (suc i) (i + m) (omega arith) ∙ sym (le-ltb 1 m (omega arith))
 
-module _ {text : List ℕ} {at i : ℕ} (j : JudgedTo text at i) where
+module _ {text rest : List ℕ} {i : ℕ} (j : JudgedTo text rest i) where
   there : i < length (lines text)
-  there = omega (arith, reached_count j.here, some_piece newline (drop at text))
+  there = omega (arith, reached_count j.here, some_piece newline rest)
 
   -- the first bad line
   pub bad_line : (refusal : ℕ) → line_refusal text i ≡ refusal → 0 < refusal → Judged text (i + 1) refusal
@@ -90,110 +95,121 @@ module _ {text : List ℕ} {at i : ℕ} (j : JudgedTo text at i) where
       (λ k l. ap not (eq-eqb (line_refusal text k) 0 (j.good k l))) in
       record { there = rw first there; number = rw first (add-one i); why = rw first (sym e) }
 
-module _ {text : List ℕ} {at i : ℕ} (here : Reached newline text at i) (later : 1 ≤ i) where
+module _ {text rest : List ℕ} {i : ℕ} (here : Reached newline text rest i) (later : 1 ≤ i) where
   -- what refuses it, by the text from there on
-  restated : line_refusal text i ≡ rest_refusal i (drop at text)
+  restated : line_refusal text i ≡ rest_refusal i rest
   unfolding line_refusal
-  restated = rw (reached_piece (here), reached_count (here), shifted i (length (lines (drop at text))), ne_eqb i 0 (λ e. omega arith)) refl
+  restated = rw (reached_piece (here), reached_count (here), shifted i (length (lines rest)), ne_eqb i 0 (λ e. omega arith)) refl
 
-  pub good_patch : i ≤ 256 → Patch (drop at text) → line_refusal text i ≡ 0
+  pub good_patch : i ≤ 256 → Patch rest → line_refusal text i ≡ 0
   unfolding patch_refusal
   good_patch few p = restated ∙ rw (p.ended, le-leb i 256 few, p.form) refl
 
   -- where nothing ends it
-  unended : ended (drop at text) 0 ≡ false → (i ≡ 1) ⊎ (at < length text) → line_refusal text i ≡ 10
+  unended : ended rest 0 ≡ false → (i ≡ 1) ⊎ (0 < length rest) → line_refusal text i ≡ 10
   unended e short = restated ∙ rw (e, either_false (leb 2 i) _ (go short)) refl
     where
-      whole : line_at (drop at text) 0 ≡ drop at text
-      whole = only_piece newline (drop at text) (omega (arith, ltb-false 1 (length (lines (drop at text))) e, some_piece newline (drop at text)))
+      whole : line_at rest 0 ≡ rest
+      whole = only_piece newline rest (omega (arith, ltb-false 1 (length (lines rest)) e, some_piece newline rest))
 
-      go : (i ≡ 1) ⊎ (at < length text) → (leb 2 i ≡ false) ⊎ (eqb (length (line_at (drop at text) 0)) 0 ≡ false)
+      go : (i ≡ 1) ⊎ (0 < length rest) → (leb 2 i ≡ false) ⊎ (eqb (length (line_at rest 0)) 0 ≡ false)
       go (inl q) = inl (lt-leb 2 i (omega arith))
-      go (inr l) = inr (rw whole (ne_eqb (length (drop at text)) 0 (λ z. omega (arith, length-drop at text))))
+      go (inr l) = inr (rw whole (ne_eqb (length rest) 0 (λ z. omega arith)))
 
-  pub bad_patch : i ≤ 256 → (i ≡ 1) ⊎ (at < length text) → (Patch (drop at text) → ⊥) → line_refusal text i ≡ 10
+  pub bad_patch : i ≤ 256 → (i ≡ 1) ⊎ (0 < length rest) → (Patch rest → ⊥) → line_refusal text i ≡ 10
   unfolding patch_refusal
-  bad_patch few short n = go (ended (drop at text) 0) refl (is_patch (line_at (drop at text) 0)) refl
+  bad_patch few short n = go (ended rest 0) refl (is_patch (line_at rest 0)) refl
     where
-      go : (t : Bool) → ended (drop at text) 0 ≡ t → (u : Bool) → is_patch (line_at (drop at text) 0) ≡ u → line_refusal text i ≡ 10
+      go : (t : Bool) → ended rest 0 ≡ t → (u : Bool) → is_patch (line_at rest 0) ≡ u → line_refusal text i ≡ 10
       go false e u q = unended e short
       go true e true q = absurd (n (record { ended = e; form = q }))
       go true e false q = restated ∙ rw (e, le-leb i 256 few, q) refl
 
-  pub surplus : 256 < i → at < length text → line_refusal text i ≡ 10
-  surplus many short = go (ended (drop at text) 0) refl
+  pub surplus : 256 < i → 0 < length rest → line_refusal text i ≡ 10
+  surplus many short = go (ended rest 0) refl
     where
-      go : (t : Bool) → ended (drop at text) 0 ≡ t → line_refusal text i ≡ 10
+      go : (t : Bool) → ended rest 0 ≡ t → line_refusal text i ≡ 10
       go true e = restated ∙ rw (e, lt-leb i 256 many) refl
       go false e = unended e (inr short)
 
-  pub at_end : 2 ≤ i → at ≡ length text → (length (lines text) ≡ i + 1) × (line_refusal text i ≡ 0)
+  pub at_end : 2 ≤ i → length rest ≡ 0 → (length (lines text) ≡ i + 1) × (line_refusal text i ≡ 0)
   unfolding split
   at_end two e =
-      let none : drop at text ≡ [] = rw e (drop-length text) in
-      (reached_count (here) ∙ rw none refl, restated ∙ rw (none, le-leb 2 i two) refl)
+      let none : rest ≡ [] = nothing rest e in
+      (reached_count here ∙ rw none refl, restated ∙ rw (none, le-leb 2 i two) refl)
 
 -- ---- the walk over the lines
 
--- it begins at the second line
-pub second_line : (text : List ℕ) (from : ℕ) → Parted newline text from → Reached newline text from 1
-second_line text from p = subst (λ (at : ℕ). Reached newline text at 1) (zero-add from) (reached_next (reached_start newline text) from p)
-
--- before which the first is good
-judged_start : (text : List ℕ) (from : ℕ) → line_refusal text 0 ≡ 0 → Parted newline text from → JudgedTo text from 1
-judged_start text from e p =
+-- it begins at the second line, before which the first is good
+judged_start : (text rest : List ℕ) → line_refusal text 0 ≡ 0 → Parted newline text rest → JudgedTo text rest 1
+judged_start text rest e p =
     record {
-      here = second_line text from p;
+      here = reached_next (reached_start newline text) p;
       good = λ k l. good_next text 0 (λ m h. absurd (omega arith)) e k l;
     }
 
-pub judged_next : {text : List ℕ} {at i : ℕ} → JudgedTo text at i → line_refusal text i ≡ 0 → (left : ℕ) → Parted newline (drop at text) left
-    → JudgedTo text (at + left) (i + 1)
-judged_next {text} {at} {i} j e left p = record { here = reached_next j.here left p; good = good_next text i j.good e }
-
--- the text ends after so many P lines
-pub accepted : {text : List ℕ} {at patches : ℕ} → JudgedTo text at (patches + 1) → 1 ≤ patches → patches ≤ 256 → at ≡ length text → Accepted text patches
-accepted {text} {at} {patches} j some few e =
-    let end = at_end j.here (omega arith) (omega arith) e in
-    record {
-      few = few;
-      many = omega (arith, end.0);
-      good = λ i l. good_next text (patches + 1) j.good end.1 i (omega (arith, end.0));
-    }
+judged_next : {text rest next : List ℕ} {i : ℕ} → JudgedTo text rest i → line_refusal text i ≡ 0 → Parted newline rest next → JudgedTo text next (i + 1)
+judged_next {text} {rest} {next} {i} j e p = record { here = reached_next j.here p; good = good_next text i j.good e }
 
 -- the loop over the P lines: the text goes on, or line 1 (counted from 0) is still to come
-pub record PatchesAt (text : List ℕ) (at line : ℕ) : Type 0 where
-  pub judged : JudgedTo text at line
+pub record PatchesAt (text rest : List ℕ) (line : ℕ) : Type 0 where
+  pub judged : JudgedTo text rest line
   pub some : 1 ≤ line
   pub few : line ≤ 257
-  pub more : (line ≡ 1) ⊎ (at < length text)
+  pub more : (line ≡ 1) ⊎ (0 < length rest)
 
-pub patches_start : (text : List ℕ) (from : ℕ) → line_refusal text 0 ≡ 0 → Parted newline text from → PatchesAt text from 1
-patches_start text from e p = record { judged = judged_start text from e p; some = omega arith; few = omega arith; more = inl refl }
+pub patches_start : (text rest : List ℕ) → line_refusal text 0 ≡ 0 → Parted newline text rest → PatchesAt text rest 1
+patches_start text rest e p = record { judged = judged_start text rest e p; some = omega arith; few = omega arith; more = inl refl }
 
-module _ {text : List ℕ} {at line : ℕ} (p : PatchesAt text at line) where
-  pub patches_bad : line < 257 → PatchSays (take (length text - at) (drop at text)) PatchRefused → Judged text (line + 1) 10
-  patches_bad l says =
-      let none : Patch (drop at text) → ⊥ = rw (part_to_end text at) at says in
-      bad_line p.judged 10 (bad_patch p.judged.here p.some (omega arith) p.more none) (omega arith)
+module _ {text rest : List ℕ} {line : ℕ} (p : PatchesAt text rest line) where
+  pub patches_bad : line < 257 → (Patch rest → ⊥) → Judged text (line + 1) 10
+  patches_bad l none = bad_line p.judged 10 (bad_patch p.judged.here p.some (omega arith) p.more none) (omega arith)
 
-  pub patches_read : line < 257 → (sep : Separation) (inks : Inks) (left : ℕ)
-      → PatchSays (take (length text - at) (drop at text)) (PatchRead sep inks left) → JudgedTo text (at + left) (line + 1)
-  patches_read l sep inks left says =
-      let read : PatchSays (drop at text) (PatchRead sep inks left) = rw (part_to_end text at) at says in
-      judged_next p.judged (good_patch p.judged.here p.some (omega arith) read.0) left read.3
+  module _ (l : line < 257) (good : Patch rest) {next : List ℕ} (parted : Parted newline rest next) where
+    read : JudgedTo text next (line + 1)
+    read = judged_next p.judged (good_patch p.judged.here p.some (omega arith) good) parted
 
-  pub patches_next : (next : ℕ) → line < 257 → JudgedTo text next (line + 1) → (next ≡ length text → ⊥) → PatchesAt text next (line + 1)
-  patches_next next l j h = record { judged = j; some = omega arith; few = omega arith; more = inr (omega (arith, j.here.within, h)) }
+    -- the text ends after so many P lines
+    pub patches_end : length next ≡ 0 → Accepted text line
+    patches_end e =
+        let end = at_end read.here (omega arith) (omega (arith, p.some)) e in
+        record {
+          few = omega arith;
+          many = omega (arith, end.0);
+          good = λ i h. good_next text (line + 1) read.good end.1 i (omega (arith, end.0));
+        }
+
+    pub patches_next : (length next ≡ 0 → ⊥) → PatchesAt text next (line + 1)
+    patches_next h = record { judged = read; some = omega arith; few = omega arith; more = inr (omega (arith, h)) }
 
   pub patches_surplus : 257 ≤ line → Judged text 258 10
   patches_surplus l = go p.more
     where
-      at_257 : JudgedTo text at 257
+      at_257 : JudgedTo text rest 257
       at_257 =
           let e : line ≡ 257 = omega (arith, p.few) in
-          subst (JudgedTo text at) e p.judged
+          subst (JudgedTo text rest) e p.judged
 
-      go : (line ≡ 1) ⊎ (at < length text) → Judged text 258 10
+      go : (line ≡ 1) ⊎ (0 < length rest) → Judged text 258 10
       go (inl e) = absurd (omega arith)
       go (inr short) = bad_line at_257 10 (surplus at_257.here (omega arith) (omega arith) short) (omega arith)
+
+-- a bad line that is answered is that line
+pub same_bad : {T : Type 0} {bad other : BadLine} → ◌≡◌ {A = Result T BadLine} (Err bad) (Err other) → bad ≡ other
+same_bad e = cc
+
+-- the first line is good
+pub good_screen : (text : List ℕ) (read : Result (Screen × Bor (List ℕ)) Refusal) (found : Screen × Bor (List ℕ)) → ScreenSays text read
+    → MatchResult read (λ x. ◌≡◌ {A = Result (Screen × Bor (List ℕ)) BadLine} (Ok found) (Ok x)) (λ refusal. ⊥) → ScreenSays text (Ok found)
+good_screen text (Ok x) found says e =
+    let same : found ≡ x = cc in
+    rw same says
+good_screen text (Err refusal) found says e = absurd e
+
+-- the first line is bad
+pub bad_screen : (text : List ℕ) (read : Result (Screen × Bor (List ℕ)) Refusal) (bad : BadLine) → ScreenSays text read
+    → MatchResult read (λ x. Err bad ≡ Ok x) (λ refusal. bad ≡ record { line = 1; refusal = refusal }) → Judged text bad.line (number bad.refusal)
+bad_screen text (Ok x) bad says e = cc
+bad_screen text (Err refusal) bad says e =
+    let start : JudgedTo text text 0 = record { here = reached_start newline text; good = λ k l. absurd (omega arith) } in
+    rw e (bad_line start (number refusal) says (number_above refusal))

@@ -1,24 +1,18 @@
 -- What the form of a line says of its fields: numbers keep their limit, a line of several words begins with them.
 -- Assumes nothing.
-use Prim.Native.Nat.{ℕ, ◌-◌, ◌≤◌, ◌<◌}
-use mathlib.Core.Path.{◌≡◌, refl, sym, ap, ◌∙◌}
-use mathlib.Core.Bool.{Bool, true, false, not, false≢true}
-use mathlib.Core.List.{List, [], ◌∷◌, ◌++◌, append-nil}
-use native.Mathlib.Omega.{arith}
-use lib.ListN.{length, get_or, take, drop, take-append-drop, length-take}
-use lib.Seq.{drop-length}
+use Prim.Native.Nat.{ℕ, ◌≤◌, ◌<◌}
+use mathlib.Core.Path.{◌≡◌, refl, ap, ◌∙◌}
+use mathlib.Core.Bool.{true, false≢true}
+use mathlib.Core.List.{List, [], ◌∷◌, ◌++◌}
+use lib.ListN.{length, get_or, drop}
 use lib.Dec.{eqb, leb}
 use borrow.Author.Tests.{eqb-true, leb-true}
-use Rattle.arith.proofs.RunLaws.{part_to_end}
 use Rattle.arith.specs.Every.{every}
-use Rattle.arith.specs.Run.{upto}
-use Rattle.arith.proofs.RefusalLaws.{both_pass, failed, passed}
+use Rattle.arith.proofs.RefusalLaws.{both_pass}
 use Rattle.arith.proofs.EveryLaws.{every_passes}
-use Rattle.arith.proofs.FirstLaws.{first_none}
 use Rattle.counts_text.specs.Text.{tab, fields, field_at, same}
 use Rattle.counts_text.specs.Numbers.{is_number, is_number_to, value_of}
-use Rattle.counts_text.specs.Lines.{are_numbers, number_at, leading, numbers_over}
-use Rattle.counts_text.specs.Parsers.{NumbersRead}
+use Rattle.counts_text.specs.Lines.{are_numbers, number_at}
 use Rattle.counts_text.proofs.SplitLaws.{split_front}
 
 -- the two halves of each test
@@ -41,25 +35,6 @@ module _ (many most : ℕ) (numbers : List (List ℕ)) (e : are_numbers many mos
   pub number_limit : (j : ℕ) → j < many → number_at numbers j ≤ most
   number_limit j l = leb-true (number_at numbers j) most (form_and_limit most (get_or numbers j []) (number_form j l)).1
 
--- where fields are as many numbers as memory has room for, they take its place
-all_over : (most : ℕ) (numbers : List (List ℕ)) (memory : List ℕ) → are_numbers (length memory) most numbers ≡ true
-    → numbers_over most numbers memory ≡ upto (number_at numbers) (length memory)
-unfolding numbers_over leading
-all_over most numbers memory e =
-    rw (first_none (length memory) (λ i. not (is_number_to most (get_or numbers i []))) (λ i l. ap not (number_form (length memory) most numbers e i l)), drop-length) (append-nil _)
-
--- what is read of a line from a place on
-module _ (at : ℕ) (line : List ℕ) {most : ℕ} {before of : List ℕ} {answer : Bool} (part : NumbersRead most (take (length line - at) (drop at line)) before of answer) where
-  read : NumbersRead most (drop at line) before of answer
-  read = rw (part_to_end line at) at part
-
-  pub rest_failed : answer ≡ false → are_numbers (length before) most (fields (drop at line)) ≡ false
-  rest_failed n = failed read.form n
-
-  pub rest_passed : answer ≡ true
-      → (are_numbers (length before) most (fields (drop at line)) ≡ true) × (of ≡ upto (number_at (fields (drop at line))) (length before))
-  rest_passed n = let form = passed read.form n in (form, read.memory ∙ all_over most (fields (drop at line)) before form)
-
 -- ---- how a line begins
 
 pub same_true : (xs ys : List ℕ) → same xs ys ≡ true → xs ≡ ys
@@ -77,11 +52,3 @@ pub first_word : (line word : List ℕ) → 1 < length (fields line) → field_a
 first_word line word h e =
     let front = split_front tab line h in
     (front.0, front.1 ∙ ap (λ (l : List ℕ). l ++ tab ∷ front.0) e, front.2)
-
--- a line that begins with a run is the run and the rest
-pub begun : (n : ℕ) (line head : List ℕ) → take n line ≡ head → line ≡ head ++ drop n line
-begun n line head e = sym (take-append-drop n line) ∙ ap (λ (l : List ℕ). l ++ drop n line) e
-
--- and is as long as the run
-pub begun_length : (n : ℕ) (line head : List ℕ) → take n line ≡ head → length head ≡ n → n ≤ length line
-begun_length n line head e l = omega (arith, length-take n line, ap (λ (xs : List ℕ). length xs) e)

@@ -5,16 +5,20 @@
 -- Assumes nothing.
 use Prim.Native.Nat.{ℕ, zero, suc, ◌+◌, ◌-◌, ◌*◌, ◌/◌, ◌%◌, ◌^◌, ◌≤◌, ◌<◌}
 use mathlib.Core.Path.{◌≡◌, refl, sym, ap, ◌∙◌}
-use mathlib.Core.Bool.{true, false, not, ◌||◌}
+use mathlib.Core.Bool.{true, false, not, ◌&&◌, ◌||◌}
 use mathlib.Core.List.{List, [], ◌∷◌, ◌++◌}
 use native.Mathlib.Nat.{le_refl, pow-suc, pow-le-pow_right}
 use native.Mathlib.Numerals.{add-one}
 use native.Mathlib.Decide.{dec_lt}
 use native.Mathlib.Omega.{arith}
-use lib.Dec.{eqb}
+use lib.Dec.{eqb, leb}
 use lib.ListN.{length, get_or, take, length-append, get_or-append}
 use lib.Seq.{get_or-append_seam, get_or_at, take-suc, take-length}
 use borrow.Author.Tests.{lt-ltb, le-ltb, le-leb, leb-true, eq-eqb, ne_eqb, eqb-false, not-true}
+use Rattle.std.specs.List.{list_all}
+use Rattle.std.specs.Char.{is_ascii_digit}
+use Rattle.std.proofs.lemmas.List.Folds.{list_all_more}
+use Rattle.arith.specs.Every.{every}
 use Rattle.arith.proofs.RefusalLaws.{both_pass}
 use Rattle.arith.proofs.EveryLaws.{every_passes, every_made}
 use Rattle.counts_text.specs.Numbers.{is_digit, is_number, value_up_to, value_of, numeral_in, numeral}
@@ -91,6 +95,25 @@ numeral_short (suc k) v h = go (dec_lt v 10) (numeral_short k (v / 10))
 -- at most 5 digits up to 99,999
 pub numeral_five : (v : ℕ) → v ≤ 99999 → length (numeral v) ≤ 5
 numeral_five v h = numeral_short 4 v (omega arith)
+
+-- ---- whether all bytes are digits
+
+-- the first bytes
+every_told : (field : List ℕ) (n : ℕ) → n ≤ length field → list_all is_ascii_digit (take n field) ≡ every n (λ i. is_digit (get_or field i 0))
+unfolding every
+every_told field zero h = refl
+every_told field (suc n) h =
+    sym (ap (λ (k : ℕ). list_all is_ascii_digit (take k field)) (add-one n)) ∙ list_all_more is_ascii_digit field n 0 h ∙ rw (every_told field n (omega arith))
+
+-- and all of them
+pub digits_told : (field : List ℕ) → list_all is_ascii_digit field ≡ every (length field) (λ i. is_digit (get_or field i 0))
+digits_told field = sym (ap (list_all is_ascii_digit) (take-length field)) ∙ every_told field (length field) (le_refl (length field))
+
+-- so a field is a number where it is 1 to 5 digits, and alone or not led by 0
+pub number_told : (field : List ℕ)
+    → is_number field ≡ (((leb 1 (length field) && leb (length field) 5) && list_all is_ascii_digit field) && (eqb (length field) 1 || not (eqb (get_or field 0 0) 48)))
+unfolding is_number
+number_told field = rw (digits_told field) refl
 
 -- ---- the value of a numeral
 

@@ -1,63 +1,63 @@
--- What the parsers answer of the text that they are given: the value at its beginning and where the rest of the text goes on, or
--- that its beginning is not of the form. Each is a statement of a text and an answer, by the cases of the answer.
+-- What the parsers answer of the text that they are given: the value at its beginning and the rest of the text, or that its
+-- beginning is not of the form. Each is a statement of a text and an answer, by the cases of the answer.
 -- Assumes nothing.
-use Rattle.std.specs.Prelude.{ℕ, suc, ◌+◌, ◌≤◌, ◌<◌, ◌≡◌, Bool, true, false, List, length, drop}
-use Rattle.screen.specs.Screens.{Admitted}
+use Rattle.std.specs.Prelude.{ℕ, suc, ◌+◌, ◌≤◌, ◌<◌, ◌≡◌, true, List, [], ◌∷◌, ◌++◌, length, get_or, drop, Option, Some, None, Result, Ok, Err}
+use denote.Ref.{Bor}
+use Rattle.arith.specs.Refusal.{number}
+use Rattle.arith.specs.declared.refusals.Refusal.{Refusal}
+use Rattle.screen.specs.declared.Screen.{Screen}
+use Rattle.screen.specs.Screens.{refusal_of, Admitted}
 use Rattle.separation.specs.declared.Separation.{Separation}
-use Rattle.counts_text.specs.declared.parsers.Field.{Field}
-use Rattle.counts_text.specs.declared.parsers.Field.TheVariants.{More, Last, NoNumber}
-use Rattle.counts_text.specs.declared.parsers.ScreenLine.{ScreenLine}
-use Rattle.counts_text.specs.declared.parsers.ScreenLine.TheVariants.{ScreenRead, ScreenRefused}
+use Rattle.separation.specs.declared.Separation.TheVariants.{Demichel, Kueppers}
 use Rattle.counts_text.specs.declared.parsers.PatchLine.{PatchLine}
-use Rattle.counts_text.specs.declared.parsers.PatchLine.TheVariants.{PatchRead, PatchRefused}
-use Rattle.counts_text.specs.declared.judging.Verdict.{Verdict}
-use Rattle.counts_text.specs.declared.judging.Verdict.TheVariants.{Good, Bad}
-use Rattle.counts_text.specs.Text.{newline, tab, index_of, lines, fields, line_at, field_at}
-use Rattle.counts_text.specs.Numbers.{is_number_to, value_of}
-use Rattle.counts_text.specs.Lines.{are_numbers, number_at, numbers_over, is_patch, screen_in, separation_in, inks_in, inks_by}
+use Rattle.counts_text.specs.declared.judging.Job.{Job}
+use Rattle.counts_text.specs.declared.judging.BadLine.{BadLine}
+use Rattle.counts_text.specs.Text.{newline, tab, split, lines, fields, line_at, joined}
+use Rattle.counts_text.specs.Lines.{letter_s, letter_p, demichel, kueppers, is_patch, screen_by, screen_in, separation_in, inks_in, counts_line}
 use Rattle.counts_text.specs.Program.{ended, line_refusal, first_bad}
 
--- a byte ends a text's first piece, and `left` is the place after it
-pub record Parted (byte : ℕ) (text : List ℕ) (left : ℕ) : Type 0 where
-  pub ended : index_of byte text < length text
-  pub place : left ≡ index_of byte text + 1
+-- a byte ends a text's first piece, and `rest` is what follows it
+pub record Parted (byte : ℕ) (text rest : List ℕ) : Type 0 where
+  pub others : drop 1 (split byte text) ≡ split byte rest
 
--- ---- a number at the beginning of the rest of a line
-pub record NumberRead (most : ℕ) (text : List ℕ) (v : ℕ) : Type 0 where
-  pub form : is_number_to most (field_at text 0) ≡ true
-  pub value : v ≡ value_of (field_at text 0)
+-- the fields of what is left of a line: none, where nothing is
+abbrev pub fields_left : Option (Bor (List ℕ)) → List (List ℕ)
+fields_left (Some rest) = fields rest.now
+fields_left None = []
 
-abbrev pub FieldRead : ℕ → List ℕ → Field → Type 0
-FieldRead most text (More v left) = NumberRead most text v × Parted tab text left
-FieldRead most text (Last v) = NumberRead most text v × (length (fields text) ≡ 1)
-FieldRead most text NoNumber = is_number_to most (field_at text 0) ≡ false
+-- what a line begins with: `S` and a tab; `P`, a separation's name and a tab after each
+abbrev pub head_s : List ℕ
+head_s = letter_s ∷ tab ∷ []
 
--- the numbers at its beginning, read into memory, and whether they are all of the line and fill the memory
-pub record NumbersRead (most : ℕ) (text before after : List ℕ) (r : Bool) : Type 0 where
-  pub form : r ≡ are_numbers (length before) most (fields text)
-  pub memory : after ≡ numbers_over most (fields text) before
+abbrev pub name_of : Separation → List ℕ
+name_of Demichel = demichel
+name_of Kueppers = kueppers
+
+abbrev pub head_p : Separation → List ℕ
+head_p sep = letter_p ∷ tab ∷ name_of sep ++ tab ∷ []
 
 -- ---- the first line of a text
-abbrev pub ScreenSays : List ℕ → ScreenLine → Type 0
-ScreenSays text (ScreenRead s left) = (line_refusal text 0 ≡ 0) × (s ≡ screen_in (line_at text 0)) × Admitted s × Parted newline text left
-ScreenSays text (ScreenRefused refusal) = (line_refusal text 0 ≡ refusal) × (0 < refusal)
+-- the numbers of a line that has a screen's form: what the line is refused for is what refuses their screen
+pub record ScreenNumbers (text numbers rest : List ℕ) : Type 0 where
+  pub refusal : line_refusal text 0 ≡ refusal_of (screen_by (λ i. get_or numbers i 0))
+  pub screen : screen_by (λ i. get_or numbers i 0) ≡ screen_in (line_at text 0)
+  pub parted : Parted newline text rest
+
+abbrev pub ScreenSays : List ℕ → Result (Screen × Bor (List ℕ)) Refusal → Type 0
+ScreenSays text (Ok read) =
+    (line_refusal text 0 ≡ 0) × (read.0 ≡ screen_in (line_at text 0)) × Admitted read.0 × Parted newline text read.1.now
+ScreenSays text (Err refusal) = line_refusal text 0 ≡ number refusal
 
 pub record Patch (text : List ℕ) : Type 0 where
   pub ended : ended text 0 ≡ true
   pub form : is_patch (line_at text 0) ≡ true
 
-abbrev pub PatchSays : List ℕ → PatchLine → Type 0
-PatchSays text (PatchRead sep inks left) =
-    Patch text × (sep ≡ separation_in (line_at text 0)) × (inks ≡ inks_in (line_at text 0)) × Parted newline text left
-PatchSays text PatchRefused = Patch text → ⊥
+abbrev pub PatchSays : List ℕ → Option PatchLine → Type 0
+PatchSays text (Some read) =
+    Patch text × (read.sep ≡ separation_in (line_at text 0)) × (read.inks ≡ inks_in (line_at text 0)) × Parted newline text read.rest.now
+PatchSays text None = Patch text → ⊥
 
--- the ink values of a P line, from place 11 on
-abbrev pub InksSays : Separation → List ℕ → ℕ → PatchLine → Type 0
-InksSays sep line left (PatchRead sepRead inks leftRead) =
-    (sepRead ≡ sep) × (inks ≡ inks_by (number_at (fields (drop 11 line)))) × (leftRead ≡ left) × (are_numbers 3 255 (fields (drop 11 line)) ≡ true)
-InksSays sep line left PatchRefused = are_numbers 3 255 (fields (drop 11 line)) ≡ false
-
--- ---- the whole text: a screen, where its P lines begin and how many there are; or the first bad line's number and what refuses it
+-- ---- the whole text: a screen, the text of its P lines and how many there are; or the first bad line's number and what refuses it
 pub record Accepted (text : List ℕ) (patches : ℕ) : Type 0 where
   pub few : patches ≤ 256
   pub many : length (lines text) ≡ patches + 2
@@ -68,6 +68,15 @@ pub record Judged (text : List ℕ) (line refusal : ℕ) : Type 0 where
   pub number : line ≡ suc (first_bad text)
   pub why : refusal ≡ line_refusal text (first_bad text)
 
-abbrev pub VerdictSays : List ℕ → Verdict → Type 0
-VerdictSays text (Good s from patches) = Accepted text patches × (s ≡ screen_in (line_at text 0)) × Admitted s × Parted newline text from
-VerdictSays text (Bad line refusal) = Judged text line refusal
+abbrev pub VerdictSays : List ℕ → Result Job BadLine → Type 0
+VerdictSays text (Ok job) =
+    Accepted text job.patches × (job.screen ≡ screen_in (line_at text 0)) × Admitted job.screen × Parted newline text job.lines.now
+VerdictSays text (Err bad) = Judged text bad.line (number bad.refusal)
+
+-- ---- a text of P lines alone, and the lines that are written for them
+pub record ArePatches (text : List ℕ) (patches : ℕ) : Type 0 where
+  pub many : length (lines text) ≡ patches + 1
+  pub form : (i : ℕ) → i < patches → is_patch (line_at text i) ≡ true
+
+abbrev pub lines_of_counts : Screen → List ℕ → ℕ → List ℕ
+lines_of_counts s text patches = joined patches (λ i. counts_line s (line_at text i))

@@ -9,11 +9,6 @@ newline = 10
 abbrev pub tab : ℕ
 tab = 9
 
--- the first place where a byte stands, or the text's length
-unfoldable pub index_of : ℕ → List ℕ → ℕ
-index_of byte [] = 0
-index_of byte (x ∷ text) = cond (eqb x byte) 0 (suc (index_of byte text))
-
 -- a byte put in front of the first piece
 abbrev pub prepend : ℕ → List (List ℕ) → List (List ℕ)
 prepend x [] = (x ∷ []) ∷ []

@@ -1,44 +1,47 @@
 // The whole input judged, line by line.
-ghost use Rattle.counts_text.specs.Parsers.{ScreenSays, VerdictSays};
-ghost use Rattle.counts_text.specs.declared.parsers.ScreenLine.TheVariants.{ScreenRead};
+ghost use Rattle.counts_text.specs.Parsers.{VerdictSays};
 
-use crate::parsers::{PatchLine, ScreenLine, patch_line, screen_line};
+use crate::parsers::{patch_line, screen_line};
+use arith::Refusal;
 use screen::Screen;
 
-// The screen, where the P lines begin and how many they are; or the number of the first bad line and what
-// refuses it.
+// What a good input asks for: the screen, the text of the P lines, and how many they are.
 #[derive(Clone, Copy)]
-pub enum Verdict {
-    Good(Screen, usize, u32),
-    Bad(u32, u32),
+pub(crate) struct Job<'a> {
+    pub screen: Screen,
+    pub lines: &'a [u8],
+    pub patches: u32,
+}
+
+// The number of the first bad line, and what refuses it.
+#[derive(Clone, Copy)]
+pub(crate) struct BadLine {
+    pub line: u32,
+    pub refusal: Refusal,
 }
 
 // Judges all lines.
-pub(crate) fn judge(input: &[u8]) -> Verdict
+pub(crate) fn judge(input: &[u8]) -> Result<Job<'_>, BadLine>
     ensures { VerdictSays input.now result }
 {
-    let found = screen_line(input);
-    match found {
-        ScreenLine::ScreenRefused(refusal) => Verdict::Bad(1, refusal),
-        ScreenLine::ScreenRead(s, left) => judge_patches(input, left, s),
-    }
-}
-
-// Judges the lines from the second on.
-fn judge_patches(input: &[u8], from: usize, s: Screen) -> Verdict
-    requires { ScreenSays input.now (ScreenRead s from) }
-    ensures { VerdictSays input.now result }
-{
-    let mut at = from;
+    let (screen, lines) = screen_line(input).map_err(|refusal| BadLine { line: 1, refusal })?;
+    let mut rest = lines;
     for line in 1..257 {
-        let found = patch_line(&input[at..]);
-        let PatchLine::PatchRead(_, _, left) = found else {
-            return Verdict::Bad(line + 1, 10);
-        };
-        at += left;
-        if at == input.len() {
-            return Verdict::Good(s, from, line);
+        let patch = patch_line(rest).ok_or(BadLine {
+            line: line + 1,
+            refusal: Refusal::Form,
+        })?;
+        rest = patch.rest;
+        if rest.is_empty() {
+            return Ok(Job {
+                screen,
+                lines,
+                patches: line,
+            });
         }
     }
-    Verdict::Bad(258, 10)
+    Err(BadLine {
+        line: 258,
+        refusal: Refusal::Form,
+    })
 }

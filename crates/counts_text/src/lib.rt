@@ -10,8 +10,9 @@ mod writing;
 ghost use Rattle.std.specs.Prelude.{◌≡◌, ◌++◌, ◌≤◌, length, take, drop};
 ghost use Rattle.counts_text.specs.Program.{counts_text};
 
-use crate::judging::{Verdict, judge};
+use crate::judging::{BadLine, judge};
 use crate::writing::{write_counts, write_error};
+use arith::Refusal;
 
 // Writes what the program answers to the input, and answers how many bytes that is.
 #[tactic(auto, using(crate::proofs::ProgramLaws::too_long, crate::proofs::OutputLaws::long_fits))]
@@ -21,11 +22,14 @@ pub fn run(input: &[u8], out: &mut [u8; 16384]) -> usize
     ensures fits { (result ≤ length out.new) × (result ≡ length (take result out.new)) }
 {
     if 65536 < input.len() {
-        return write_error(0, 10, out);
+        let too_long = BadLine {
+            line: 0,
+            refusal: Refusal::Form,
+        };
+        return write_error(too_long, out);
     }
-    let verdict = judge(input);
-    match verdict {
-        Verdict::Bad(line, refusal) => write_error(line, refusal, out),
-        Verdict::Good(s, from, patches) => write_counts(input, from, patches, s, out),
+    match judge(input) {
+        Ok(job) => write_counts(job, out),
+        Err(bad) => write_error(bad, out),
     }
 }

@@ -1,59 +1,46 @@
 // Numbers as text: told, read and written.
-ghost use Rattle.std.specs.Prelude.{◌≡◌, true, ◌-◌, ◌≤◌, length, get_or};
-ghost use Rattle.arith.specs.Every.{every};
+ghost use Rattle.std.specs.Prelude.{◌≡◌, cond, Some, None, true, ◌≤◌, length};
+ghost use Rattle.std.specs.Prelude.{leb, ◌&&◌};
+ghost use Rattle.std.specs.List.{list_all};
+ghost use Rattle.std.specs.Char.{is_ascii_digit};
 ghost use Rattle.counts_text.specs.Text.{Wrote};
-ghost use Rattle.counts_text.specs.Numbers.{is_digit, is_number, value_of, numeral};
+ghost use Rattle.counts_text.specs.Numbers.{is_number, is_number_to, value_of, numeral};
+
+// The number that a field is, where it is one and is at most so much.
+pub(crate) fn number_in(field: &[u8], most: u32) -> Option<u32>
+    ensures { result ≡ cond (is_number_to most field.now) (Some (value_of field.now)) None }
+{
+    if !is_number(field) {
+        return None;
+    }
+    let value = value_of(field);
+    if value <= most { Some(value) } else { None }
+}
+
+// Whether a field is 1 to 5 digits.
+fn all_digits(field: &[u8]) -> bool
+    ensures { result ≡ ((leb 1 (length field.now) && leb (length field.now) 5) && list_all is_ascii_digit field.now) }
+{
+    (1..=5).contains(&field.len()) && field.iter().all(u8::is_ascii_digit)
+}
 
 // Whether a field is a number: 1 to 5 digits, the first of them 0 only where it is alone.
-pub(crate) fn is_number(field: &[u8]) -> bool
+fn is_number(field: &[u8]) -> bool
     ensures { result ≡ is_number field.now }
 {
-    if field.len() == 0 {
-        return false;
-    }
-    if 5 < field.len() {
-        return false;
-    }
-    if !all_digits(field) {
-        return false;
-    }
-    field.len() == 1 || field[0] != 48
-}
-
-fn all_digits(field: &[u8]) -> bool
-    ensures { result ≡ every (length field.now) (λ i. is_digit (get_or field.now i 0)) }
-{
-    for i in 0..field.len() {
-        if !is_digit(field[i]) {
-            return false;
-        }
-    }
-    true
-}
-
-fn is_digit(byte: u8) -> bool
-    ensures { result ≡ is_digit byte }
-{
-    48 <= byte && byte <= 57
+    all_digits(field) && (field.len() == 1 || field[0] != b'0')
 }
 
 // The number that a field stands for.
-pub(crate) fn value_of(field: &[u8]) -> u32
+fn value_of(field: &[u8]) -> u32
     requires { is_number field.now ≡ true }
     ensures { result ≡ value_of field.now }
 {
     let mut value = 0;
-    for i in 0..field.len() {
-        value = 10 * value + digit_of(field[i]);
+    for digit in field {
+        value = 10 * value + u32::from(digit - b'0');
     }
     value
-}
-
-fn digit_of(byte: u8) -> u32
-    requires { 48 ≤ byte }
-    ensures { result ≡ byte - 48 }
-{
-    (byte - 48) as u32
 }
 
 // Writes a number's numeral and answers how many digits it has.
@@ -62,10 +49,10 @@ pub(crate) fn write_number(v: u32, out: &mut [u8]) -> usize
     ensures { Wrote (numeral v) out.old out.new result }
 {
     if v < 10 {
-        out[0] = 48 + v as u8;
+        out[0] = b'0' + v as u8;
         return 1;
     }
     let front = write_number(v / 10, out);
-    out[front] = 48 + (v % 10) as u8;
+    out[front] = b'0' + (v % 10) as u8;
     front + 1
 }

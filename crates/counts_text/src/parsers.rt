@@ -1,155 +1,99 @@
-// Parsers: each takes the rest of a text and answers what stands at its beginning and where the text goes
-// on after it, or that it is not of the form.
-ghost use Rattle.std.specs.Prelude.{◌≡◌, true, ◌≤◌, length, take};
-ghost use Rattle.counts_text.specs.Text.{index_of};
-ghost use Rattle.counts_text.specs.Parsers.{FieldRead, NumbersRead, ScreenSays, PatchSays, InksSays};
+// Parsers: each takes the rest of a text and answers what stands at its beginning and the text after it, or
+// that it is not of the form.
+ghost use Rattle.std.specs.Prelude.{◌≡◌, ℕ, cond, Some, None, List, ◌∷◌, [], ◌++◌, MatchOption};
+ghost use Rattle.separation.specs.declared.Separation.{Separation};
+ghost use Rattle.arith.specs.Run.{upto};
+ghost use Rattle.counts_text.specs.Text.{split, fields};
+ghost use Rattle.counts_text.specs.Lines.{are_numbers, number_at};
+ghost use Rattle.counts_text.specs.Program.{line_refusal};
+ghost use Rattle.counts_text.specs.Parsers.{head_p, fields_left, ScreenNumbers, ScreenSays, PatchSays};
 
-use crate::numbers::{is_number, value_of};
+use crate::numbers::number_in;
+use arith::Refusal;
 use screen::Screen;
 use separation::{Inks, Separation};
 
-// A number and where the next field begins, the last number of its line, or no such number.
+// What a P line says, and the text after the line.
 #[derive(Clone, Copy)]
-pub enum Field {
-    More(u32, usize),
-    Last(u32),
-    NoNumber,
+pub(crate) struct PatchLine<'a> {
+    pub sep: Separation,
+    pub inks: Inks,
+    pub rest: &'a [u8],
 }
 
-// An admitted screen and where the next line begins, or what refuses the line.
-#[derive(Clone, Copy)]
-pub enum ScreenLine {
-    ScreenRead(Screen, usize),
-    ScreenRefused(u32),
-}
-
-// A separation, ink values and where the next line begins, or a line of another form.
-#[derive(Clone, Copy)]
-pub enum PatchLine {
-    PatchRead(Separation, Inks, usize),
-    PatchRefused,
-}
-
-// The first place where a byte stands, or the text's length.
-fn place_of(text: &[u8], byte: u8) -> usize
-    ensures place { result ≡ index_of byte text.now }
-    ensures within { result ≤ length text.now }
+// The text before the first place where a byte stands, and the text after that place.
+fn split_once(text: &[u8], byte: u8) -> Option<(&[u8], &[u8])>
+    ensures { MatchOption result (split byte text.now ≡ text.now ∷ []) (λ parts. split byte text.now ≡ parts.0.now ∷ split byte parts.1.now) }
 {
-    for i in 0..text.len() {
-        if text[i] == byte {
-            return i;
-        }
-    }
-    text.len()
+    let end = text.iter().position(|&b| b == byte)?;
+    Some((&text[..end], &text[end + 1..]))
 }
 
-// The first field of the rest of a line, where it is a number of at most so much.
-fn first_number(text: &[u8], most: u32) -> Field
-    ensures { FieldRead most text.now result }
+// The first field of a line, and the rest of the line where it has more fields.
+fn first_field(line: &[u8]) -> (&[u8], Option<&[u8]>)
+    ensures { fields line.now ≡ result.0.now ∷ fields_left result.1 }
 {
-    let end = place_of(text, 9);
-    if !is_number(&text[..end]) {
-        return Field::NoNumber;
+    match split_once(line, b'\t') {
+        Some((field, rest)) => (field, Some(rest)),
+        None => (line, None),
     }
-    let value = value_of(&text[..end]);
-    if most < value {
-        return Field::NoNumber;
-    }
-    if end == text.len() {
-        return Field::Last(value);
-    }
-    Field::More(value, end + 1)
 }
 
-// Reads the numbers, none above a limit, that the rest of a line begins with, as far as there is room for
-// them. Answers whether the line has these fields alone and they fill the room.
-fn numbers(text: &[u8], most: u32, of: &mut [u32]) -> bool
-    ensures { NumbersRead most text.now of.old of.new result }
+// The numbers, none above a limit, that the fields of a line are, where there are so many of them.
+fn numbers<const N: usize>(line: &[u8], most: u32) -> Option<[u32; N]>
+    ensures { result ≡ cond (are_numbers N most (fields line.now)) (Some (upto (number_at (fields line.now)) N)) None }
 {
-    let mut at = 0;
-    for i in 0..of.len() {
-        let found = first_number(&text[at..], most);
-        match found {
-            Field::NoNumber => return false,
-            Field::Last(value) => {
-                of[i] = value;
-                return i + 1 == of.len();
-            }
-            Field::More(value, left) => {
-                of[i] = value;
-                at += left;
-            }
-        }
+    let mut of = [0; N];
+    let mut left = Some(line);
+    for number in &mut of {
+        let (field, rest) = first_field(left?);
+        *number = number_in(field, most)?;
+        left = rest;
     }
-    false
+    if left.is_some() {
+        return None;
+    }
+    Some(of)
 }
 
-// Whether a text begins with a run of bytes.
-fn begins(text: &[u8], head: &[u8]) -> bool
-    ensures { (result ≡ true → take (length head.now) text.now ≡ head.now) × (take (length head.now) text.now ≡ head.now → result ≡ true) }
+// The numbers of the first line of a text, where it has a screen's form, and the text after it.
+fn screen_numbers(text: &[u8]) -> Option<([u32; 5], &[u8])>
+    ensures { MatchOption result (line_refusal text.now 0 ≡ 10) (λ read. ScreenNumbers text.now read.0 read.1.now) }
 {
-    if text.len() < head.len() {
-        return false;
-    }
-    let end = head.len();
-    &text[..end] == head
+    let (line, rest) = split_once(text, b'\n')?;
+    let values = line.strip_prefix(b"S\t")?;
+    Some((numbers::<5>(values, 99999)?, rest))
 }
 
-// The first line of a text, where it is a screen's.
-pub(crate) fn screen_line(text: &[u8]) -> ScreenLine
+// The first line of a text, where it is a screen's, and the text after it.
+pub(crate) fn screen_line(text: &[u8]) -> Result<(Screen, &[u8]), Refusal>
     ensures { ScreenSays text.now result }
 {
-    let end = place_of(text, 10);
-    if end == text.len() {
-        return ScreenLine::ScreenRefused(10);
+    let ([a, b, n, k, g], rest) = screen_numbers(text).ok_or(Refusal::Form)?;
+    Ok((screen::make(a, b, n, k, g)?, rest))
+}
+
+// The separation that a P line begins with, and the rest of the line.
+fn separation_of(line: &[u8]) -> Option<(Separation, &[u8])>
+    ensures { MatchOption result ((sep : Separation) (values : List ℕ) → line.now ≡ head_p sep ++ values → ⊥) (λ read. line.now ≡ head_p read.0 ++ read.1.now) }
+{
+    match line.strip_prefix(b"P\tdemichel\t") {
+        Some(values) => Some((Separation::Demichel, values)),
+        None => Some((Separation::Kueppers, line.strip_prefix(b"P\tkueppers\t")?)),
     }
-    let line = &text[..end];
-    if !begins(line, b"S\t") {
-        return ScreenLine::ScreenRefused(10);
-    }
-    let mut of = [0u32; 5];
-    if !numbers(&line[2..], 99999, &mut of) {
-        return ScreenLine::ScreenRefused(10);
-    }
-    let made = screen::make(of[0], of[1], of[2], of[3], of[4]);
-    if made.refusal != 0 {
-        return ScreenLine::ScreenRefused(made.refusal);
-    }
-    let s = made.screen;
-    ScreenLine::ScreenRead(s, end + 1)
 }
 
 // The first line of a text, where it is a P line.
-pub(crate) fn patch_line(text: &[u8]) -> PatchLine
+pub(crate) fn patch_line(text: &[u8]) -> Option<PatchLine<'_>>
     ensures { PatchSays text.now result }
 {
-    let end = place_of(text, 10);
-    if end == text.len() {
-        return PatchLine::PatchRefused;
-    }
-    let line = &text[..end];
-    if begins(line, b"P\tdemichel\t") {
-        return with_inks(Separation::Demichel, line, end + 1);
-    }
-    if begins(line, b"P\tkueppers\t") {
-        return with_inks(Separation::Kueppers, line, end + 1);
-    }
-    PatchLine::PatchRefused
-}
-
-// A separation with the ink values that a P line has from place 11 on, the next line beginning at a place.
-fn with_inks(sep: Separation, line: &[u8], left: usize) -> PatchLine
-    requires { 11 ≤ length line.now }
-    ensures { InksSays sep line.now left result }
-{
-    let mut of = [0u32; 3];
-    if !numbers(&line[11..], 255, &mut of) {
-        return PatchLine::PatchRefused;
-    }
+    let (line, rest) = split_once(text, b'\n')?;
+    let (sep, values) = separation_of(line)?;
+    let [c, m, y] = numbers::<3>(values, 255)?;
     let inks = Inks {
-        c: of[0] as u8,
-        m: of[1] as u8,
-        y: of[2] as u8,
+        c: c as u8,
+        m: m as u8,
+        y: y as u8,
     };
-    PatchLine::PatchRead(sep, inks, left)
+    Some(PatchLine { sep, inks, rest })
 }

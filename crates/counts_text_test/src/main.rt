@@ -5,7 +5,7 @@
 // print.
 #![tactic(auto)]
 
-ghost use Rattle.std.specs.Prelude.{◌≤◌, ◌<◌};
+ghost use Rattle.std.specs.Prelude.{◌≤◌};
 
 // Reads the file stdin, which is no longer than the room for it.
 fn main() {
@@ -16,12 +16,9 @@ fn main() {
 
 // Shows each text that is in the input.
 fn show_all(input: &[u8]) {
-    let mut from = 0;
-    for i in 0..input.len() {
-        let mark = input[i];
-        if 28 <= mark && mark <= 31 {
-            show_marked(&input[from..i], mark);
-            from = i + 1;
+    for marked in input.split_inclusive(|byte| (28..=31).contains(byte)) {
+        if let Some((mark, text)) = marked.split_last() {
+            show_marked(text, *mark);
         }
     }
 }
@@ -32,24 +29,25 @@ fn show_marked(text: &[u8], mark: u8) {
         28 => {
             io::write_all(1, text);
         }
-        30 => show_filled(text, 65536),
-        31 => show_filled(text, 65537),
-        _ => show(text),
+        29 => show(text),
+        30 => show_filled::<65536>(text),
+        31 => show_filled::<65537>(text),
+        _ => {}
     }
 }
 
 // Shows a text of so many bytes: those in front, zeros and a newline.
-fn show_filled(front: &[u8], size: usize)
-    requires { (0 < size) × (size ≤ 65537) }
+fn show_filled<const SIZE: usize>(front: &[u8])
+    requires { SIZE ≤ 65537 }
 {
-    let mut text = [48u8; 65537];
-    for i in 0..front.len() {
-        if i < 65537 {
-            text[i] = front[i];
-        }
+    let mut text = [b'0'; SIZE];
+    for (place, byte) in text.iter_mut().zip(front) {
+        *place = *byte;
     }
-    text[size - 1] = 10;
-    show(&text[..size]);
+    if let Some(last) = text.last_mut() {
+        *last = b'\n';
+    }
+    show(&text);
 }
 
 // Shows what is answered to a text.

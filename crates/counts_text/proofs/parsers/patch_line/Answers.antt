@@ -1,43 +1,30 @@
 -- `counts_text::parsers::patch_line` meets its contract: the head of the line tells the separation, and its ink values follow. Assumes nothing.
-use mathlib.Core.Path.{refl, sym, ◌∙◌}
-use mathlib.Core.Bool.{true≢false}
-use lib.ListN.{take}
-use lib.Seq.{length-take-le}
-use Rattle.separation.specs.declared.Separation.TheVariants.{Demichel, Kueppers}
-use Rattle.counts_text.proofs.LineLaws.{begun_length}
-use Rattle.counts_text.proofs.HeadLaws.{head_p}
-use Rattle.counts_text.proofs.FirstLine.{patch_unended, patch_unheaded, patch_says}
+use native.Mathlib.Omega.{arith}
+use Rattle.counts_text.proofs.FirstLine.{next_line, patch_unended, patch_unheaded, patch_unread, ink_limit, patch_form, patch_separation, patch_inks}
 use Rattle.counts_text.proofs.parsers.patch_line.Goals as goal
 
-pub returns-then-end-text : goal.returns-then-end-text
-returns-then-end-text c = patch_unended _ _ c.place_of-end.ensures.place c.if-end-text.true
+pub returns-in_err-line : goal.returns-in_err-line
+returns-in_err-line c = rw c.from_residual.ensures (patch_unended _ c.in_err-line.ensures)
 
-pub slice_bounds-line-end : goal.slice_bounds-line-end
-slice_bounds-line-end c = sym (length-take-le _ _ c.place_of-end.ensures.within)
+pub returns-in_err-sep : goal.returns-in_err-sep
+returns-in_err-sep c = rw c.from_residual-in_err-sep.ensures (patch_unheaded _ _ _ c.in_ok-line.ensures c.in_err-sep.ensures)
 
-pub with_inks-requires : goal.with_inks-requires
-with_inks-requires c =
-    let line = take c.place_of-end.result c.args.text.now in
-    begun_length 11 line (head_p Demichel) (c.begins.ensures.0 c.if-begins.true) refl
+pub returns-in_err-c : goal.returns-in_err-c
+returns-in_err-c c = rw c.from_residual-in_err-c.ensures (patch_unread _ _ _ c.in_ok-line.ensures _ _ c.in_ok-sep.ensures c.in_err-c.ensures)
 
-pub returns-then-begins : goal.returns-then-begins
-returns-then-begins c =
-    let place = c.place_of-end.ensures in
-    patch_says _ _ place.place place.within c.if-end-text.false Demichel (c.begins.ensures.0 c.if-begins.true) c.with_inks.result c.with_inks.ensures
+pub overflow_cast-inks : goal.overflow_cast-inks
+overflow_cast-inks c = omega (arith, ink_limit _ _ _ c.in_ok-line.ensures _ _ c.in_ok-sep.ensures _ c.in_ok-c.ensures 0 (omega arith))
 
-pub with_inks-requires-then-begins-2 : goal.with_inks-requires-then-begins-2
-with_inks-requires-then-begins-2 c =
-    let line = take c.place_of-end.result c.args.text.now in
-    begun_length 11 line (head_p Kueppers) (c.begins-2.ensures.0 c.if-begins-2.true) refl
+pub overflow_cast-inks-2 : goal.overflow_cast-inks-2
+overflow_cast-inks-2 c = omega (arith, ink_limit _ _ _ c.in_ok-line.ensures _ _ c.in_ok-sep.ensures _ c.in_ok-c.ensures 1 (omega arith))
 
-pub returns-then-begins-2 : goal.returns-then-begins-2
-returns-then-begins-2 c =
-    let place = c.place_of-end.ensures in
-    patch_says _ _ place.place place.within c.if-end-text.false Kueppers (c.begins-2.ensures.0 c.if-begins-2.true) c.with_inks-then-begins-2.result c.with_inks-then-begins-2.ensures
+pub overflow_cast-inks-3 : goal.overflow_cast-inks-3
+overflow_cast-inks-3 c = omega (arith, ink_limit _ _ _ c.in_ok-line.ensures _ _ c.in_ok-sep.ensures _ c.in_ok-c.ensures 2 (omega arith))
 
 pub returns : goal.returns
-returns c =
-    let place = c.place_of-end.ensures in
-    patch_unheaded _ _ place.place place.within c.if-end-text.false
-    (λ h. true≢false (sym (c.begins.ensures.1 h) ∙ c.if-begins.false))
-    (λ h. true≢false (sym (c.begins-2.ensures.1 h) ∙ c.if-begins-2.false))
+returns c = (
+  patch_form _ _ _ c.in_ok-line.ensures _ _ c.in_ok-sep.ensures _ c.in_ok-c.ensures,
+  patch_separation _ _ _ c.in_ok-line.ensures _ _ c.in_ok-sep.ensures _ c.in_ok-c.ensures,
+  patch_inks _ _ _ c.in_ok-line.ensures _ _ c.in_ok-sep.ensures _ c.in_ok-c.ensures,
+  next_line _ _ _ c.in_ok-line.ensures,
+)
