@@ -93,11 +93,6 @@ module _ {cell : ℕ → ℕ} {pixels word t : ℕ} (s : WordAt cell pixels word
     pub word_next : WordAt cell pixels (word + shifted m (cell t)) (t + 1)
     word_next = record { within = omega arith; sum = word_more }
 
-  pub word_end : pixels ≤ t → word ≡ word_of cell pixels
-  word_end h =
-      let q : t ≡ pixels = omega (arith, s.within) in
-      s.sum ∙ ap (word_of cell) q
-
 -- ---- a part of the cells
 
 module _ (cells : List ℕ) (first pixels : ℕ) (inside : first + pixels ≤ length cells) where
@@ -135,17 +130,9 @@ unfolding stored
 storing_start word plane place planes = record { within = omega arith; there = refl }
 
 module _ {word plane place : ℕ} {planes₀ planes : List ℕ} {p : ℕ} (s : StoringAt word plane place planes₀ planes p) where
-  pub storing_size : length planes ≡ length planes₀
-  storing_size = rw s.there (stored_length word plane place planes₀ p)
-
   pub storing_step : p < 8 → {byte : ℕ} → byte ≡ get_or (to_le_bytes w64 word) p 0 → StoringAt word plane place planes₀ (set planes (p * plane + place) byte) (p + 1)
   unfolding stored
   storing_step l e = record { within = omega arith; there = rw (add-one p, e, byte_stored word p l, s.there) }
-
-  pub storing_end : 8 ≤ p → planes ≡ stored word plane place planes₀ 8
-  storing_end h =
-      let q : p ≡ 8 = omega (arith, s.within) in
-      s.there ∙ ap (stored word plane place planes₀) q
 
 -- ---- place by place
 
