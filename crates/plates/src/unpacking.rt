@@ -72,7 +72,6 @@ impl<'a> Planes<'a> {
     // without an early end, so that the compiler tests many at once: as many must pass as the columns have
     // eights. A last place of fewer pixels is tested by itself; if it is as it should be, it is not among
     // those that passed.
-    #[tactic(auto, using(crate::proofs::UnpackLoops::full_end, crate::proofs::UnpackLoops::full_last))]
     fn row_sound(self, start: usize) -> bool
         requires { start + row_bytes self.window.columns ≤ self.plane }
         ensures { result ≡ row_once self.entry.window.columns self.entry.plane self.entry.bytes.now start }
@@ -84,7 +83,8 @@ impl<'a> Planes<'a> {
         }
         let full = columns / 8;
         let pixels = columns % 8;
-        (usize::from(passed) == full) & (pixels == 0 || self.once_at(start + full, pixels))
+        let last = pixels == 0 || self.once_at(start + full, pixels);
+        (usize::from(passed) == full) & last
     }
 
     // Whether each of a place's first pixels is in exactly one plane, and each after them in none: the eight
