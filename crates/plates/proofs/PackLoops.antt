@@ -1,22 +1,25 @@
 -- The loops of packing, over plain numbers and lists: a word is added up cell by cell, stored byte by byte, and the planes are filled place by place.
 -- Assumes nothing.
-use Prim.Native.Nat.{ℕ, ◌+◌, ◌*◌, ◌/◌, ◌%◌, ◌^◌, ◌≤◌, ◌<◌, max}
+use Prim.Native.Nat.{ℕ, zero, suc, ◌+◌, ◌-◌, ◌*◌, ◌/◌, ◌%◌, ◌^◌, ◌≤◌, ◌<◌, max}
 use mathlib.Core.Path.{◌≡◌, refl, sym, ap, subst, ◌∙◌}
-use mathlib.Core.Bool.{◌&&◌, cond, and-false}
-use mathlib.Core.List.{List}
+use mathlib.Core.Bool.{true, cond}
+use mathlib.Core.List.{List, [], ◌∷◌}
 use mathlib.Core.Logic.{◌⊎◌, inl, inr}
-use native.Mathlib.Nat.{le_of_suc-le-suc, eq-or-lt_of_le, add_assoc, zero-mul, div-one, div-div-eq-div-mul, pow-suc, ne_of_lt, div-add-mod', mod-lt, div-lt_iff_lt-mul}
+use native.Mathlib.Nat.{le_of_suc-le-suc, eq-or-lt_of_le, add_assoc, zero-mul, div-one, ne_of_lt, div-add-mod', mod-lt, div-lt_iff_lt-mul}
 use native.Mathlib.Numerals.{add-one}
-use native.Mathlib.Decide.{dec_lt, dec_le}
+use native.Mathlib.Decide.{dec_lt}
 use native.Mathlib.Omega.{arith}
 use lib.Arith.{digits_lt}
 use lib.Dec.{eqb, ltb, leb}
-use lib.ListN.{length, get_or, set}
+use lib.ListN.{length, get_or, set, take, drop}
+use mir.Syntax.{w64}
+use Rattle.std.specs.Int.{to_le_bytes}
+use Rattle.std.specs.List.{fold}
 use lib.Pow.{shl_exact}
-use borrow.Author.Tests.{lt-ltb, le-ltb, le-leb, lt-leb}
-use Rattle.arith.specs.Every.{every}
+use borrow.Author.Tests.{lt-ltb, le-ltb, le-leb, leb-true}
 use Rattle.arith.specs.Sum.{sum_below, indicator}
-use Rattle.arith.proofs.RunLaws.{upto_is}
+use Rattle.arith.proofs.EveryLaws.{every_is, every_made, every_passes}
+use Rattle.arith.proofs.RunLaws.{upto_is, part_length, part_at}
 use Rattle.arith.proofs.SumLaws.{sum_same, sum_front}
 use Rattle.plates.specs.Masks.{mask}
 use Rattle.plates.specs.Planes.{row_bytes, planes_length, cell_at, in_plane, plane_byte, planes_byte, planes_of, colorants_only}
@@ -28,52 +31,32 @@ use Rattle.plates.proofs.WordLaws.{word_below, byte_of_word, stored_length, stor
 
 -- ---- the highest cell
 
--- the highest of the first i cells is a colorant exactly where each of them is
-pub record HighestAt (cells : List ℕ) (highest i : ℕ) : Type 0 where
-  pub within : i ≤ length cells
-  pub tells : leb highest 7 ≡ every i (λ k. leb (get_or cells k 0) 7)
+-- the highest of some cells and a number
+abbrev pub highest_of : ℕ → List ℕ → ℕ
+highest_of = fold (λ highest cell. max cell highest)
 
-pub highest_start : (cells : List ℕ) → HighestAt cells 0 0
-unfolding every
-highest_start cells = record { within = omega arith; tells = refl }
+-- it is within a bound where the number and each cell is, and only there
+highest_kept : (bound start : ℕ) (cells : List ℕ) → highest_of start cells ≤ bound → (start ≤ bound) × ((i : ℕ) → i < length cells → get_or cells i 0 ≤ bound)
+highest_kept bound start [] h = (h, λ i l. absurd (omega arith))
+highest_kept bound start (cell ∷ cells) h =
+    let rest = highest_kept bound (max cell start) cells h in
+    (omega (arith, rest.0), go rest)
+  where
+    go : (max cell start ≤ bound) × ((i : ℕ) → i < length cells → get_or cells i 0 ≤ bound)
+        → (i : ℕ) → i < length (cell ∷ cells) → get_or (cell ∷ cells) i 0 ≤ bound
+    go rest zero l = omega (arith, rest.0)
+    go rest (suc i) l = rest.1 i (omega arith)
 
-module _ {cells : List ℕ} {highest i : ℕ} (s : HighestAt cells highest i) where
-  highest_next : (h : ℕ) → i < length cells → leb h 7 ≡ leb highest 7 && leb (get_or cells i 0) 7 → HighestAt cells h (i + 1)
-  unfolding every
-  highest_next h l e = record { within = omega arith; tells = rw (add-one i, ← s.tells) e }
+highest_made : (bound start : ℕ) (cells : List ℕ) → start ≤ bound → ((i : ℕ) → i < length cells → get_or cells i 0 ≤ bound) → highest_of start cells ≤ bound
+highest_made bound start [] h each = h
+highest_made bound start (cell ∷ cells) h each =
+    highest_made bound (max cell start) cells (omega (arith, each 0 (omega arith))) (λ i l. each (suc i) (omega arith))
 
-  -- the next cell is higher, or it is not
-  highest_raised : i < length cells → highest < get_or cells i 0 → HighestAt cells (get_or cells i 0) (i + 1)
-  highest_raised l h = highest_next _ l (go (dec_le (get_or cells i 0) 7))
-    where
-      go : Dec (get_or cells i 0 ≤ 7) → leb (get_or cells i 0) 7 ≡ leb highest 7 && leb (get_or cells i 0) 7
-      go (yes k) = rw (le-leb highest 7 (omega arith)) refl
-      go (no k) = rw (lt-leb (get_or cells i 0) 7 (omega arith)) (sym (and-false (leb highest 7)))
-
-  highest_kept : i < length cells → get_or cells i 0 ≤ highest → HighestAt cells highest (i + 1)
-  highest_kept l h = highest_next _ l (go (dec_le highest 7))
-    where
-      go : Dec (highest ≤ 7) → leb highest 7 ≡ leb highest 7 && leb (get_or cells i 0) 7
-      go (yes k) = rw (le-leb highest 7 k, le-leb (get_or cells i 0) 7 (omega arith)) refl
-      go (no k) = rw (lt-leb highest 7 (omega arith)) refl
-
-  -- either way it is the greater of the two
-  pub highest_step : (h : ℕ) → i < length cells → h ≡ max highest (get_or cells i 0) → HighestAt cells h (i + 1)
-  highest_step h l e = go (dec_le (get_or cells i 0) highest)
-    where
-      go : Dec (get_or cells i 0 ≤ highest) → HighestAt cells h (i + 1)
-      go (yes k) =
-          let same : h ≡ highest = omega arith in
-          rw same (highest_kept l k)
-      go (no k) =
-          let same : h ≡ get_or cells i 0 = omega arith in
-          rw same (highest_raised l (omega arith))
-
-  pub highest_end : length cells ≤ i → leb highest 7 ≡ colorants_only cells
-  unfolding colorants_only
-  highest_end h =
-      let q : i ≡ length cells = omega (arith, s.within) in
-      s.tells ∙ ap (λ (k : ℕ). every k (λ j. leb (get_or cells j 0) 7)) q
+pub highest_tells : (cells : List ℕ) → leb (highest_of 0 cells) 7 ≡ colorants_only cells
+unfolding colorants_only
+highest_tells cells =
+    every_is (length cells) _ _ (λ e i l. le-leb _ _ ((highest_kept 7 0 cells (leb-true _ _ e)).1 i l))
+    (λ all. le-leb _ _ (highest_made 7 0 cells (omega arith) (λ i l. leb-true _ _ (all i l))))
 
 -- ---- the word
 
@@ -110,40 +93,46 @@ module _ {cell : ℕ → ℕ} {pixels word t : ℕ} (s : WordAt cell pixels word
     pub word_next : WordAt cell pixels (word + shifted m (cell t)) (t + 1)
     word_next = record { within = omega arith; sum = word_more }
 
-  pub word_end : pixels ≤ t → word ≡ word_of cell pixels
-  word_end h =
-      let q : t ≡ pixels = omega (arith, s.within) in
-      s.sum ∙ ap (word_of cell) q
+-- ---- a part of the cells
+
+module _ (cells : List ℕ) (first pixels : ℕ) (inside : first + pixels ≤ length cells) where
+  abbrev part : List ℕ
+  part = take (first + pixels - first) (drop first cells)
+
+  pub part_colorants : colorants_only cells ≡ true → colorants_only part ≡ true
+  unfolding colorants_only
+  part_colorants only =
+      every_made (length part) _
+      (λ i l.
+      let long = part_length first pixels cells inside in
+      rw (part_at first (first + pixels) cells i (omega (arith, long)))
+      (every_passes (length cells) _ only (first + i) (omega (arith, long))))
+
+  pub part_word : word_of (λ t. get_or part t 0) (length part) ≡ word_of (λ t. get_or cells (first + t) 0) pixels
+  unfolding word_of
+  part_word =
+      rw (part_length first pixels cells inside)
+      (sum_same pixels _ _ (λ t l. ap (λ (cell : ℕ). mask t * 256 ^ cell) (part_at first (first + pixels) cells t (omega arith))))
 
 -- ---- its bytes
 
--- the first p bytes are stored, and what is left of the word begins with the next
-pub record StoringAt (word plane place : ℕ) (planes₀ planes : List ℕ) (rest p : ℕ) : Type 0 where
+-- they are those that the language's method gives
+pub byte_stored : (word p : ℕ) → p < 8 → get_or (to_le_bytes w64 word) p 0 ≡ byte_of word p
+byte_stored word = each (λ p. get_or (to_le_bytes w64 word) p 0 ≡ byte_of word p) (rw (div-one word) refl) refl refl refl refl refl refl refl
+
+-- the first p bytes are stored
+pub record StoringAt (word plane place : ℕ) (planes₀ planes : List ℕ) (p : ℕ) : Type 0 where
   pub within : p ≤ 8
-  pub left : rest ≡ word / 256 ^ p
   pub there : planes ≡ stored word plane place planes₀ p
 
-pub storing_start : (word plane place : ℕ) (planes : List ℕ) → StoringAt word plane place planes planes word 0
+pub storing_start : (word plane place : ℕ) (planes : List ℕ) → StoringAt word plane place planes planes 0
 unfolding stored
-storing_start word plane place planes = record { within = omega arith; left = sym (div-one word); there = refl }
+storing_start word plane place planes = record { within = omega arith; there = refl }
 
-module _ {word plane place : ℕ} {planes₀ planes : List ℕ} {rest p : ℕ} (s : StoringAt word plane place planes₀ planes rest p) where
-  pub storing_size : length planes ≡ length planes₀
-  storing_size = rw s.there (stored_length word plane place planes₀ p)
-
-  pub storing_step : p < 8 → StoringAt word plane place planes₀ (set planes (p * plane + place) (rest % 256)) (rest / 256) (p + 1)
+module _ {word plane place : ℕ} {planes₀ planes : List ℕ} {p : ℕ} (s : StoringAt word plane place planes₀ planes p) where
+  pub storing_step : p < 8 → {byte : ℕ} → byte ≡ get_or (to_le_bytes w64 word) p 0 → StoringAt word plane place planes₀ (set planes (p * plane + place) byte) (p + 1)
   unfolding stored
-  storing_step l =
-      record {
-        within = omega arith;
-        left = rw (add-one p, s.left, pow-suc 256 p) (div-div-eq-div-mul word (256 ^ p) 256);
-        there = rw (add-one p, s.left, s.there);
-      }
-
-  pub storing_end : 8 ≤ p → planes ≡ stored word plane place planes₀ 8
-  storing_end h =
-      let q : p ≡ 8 = omega (arith, s.within) in
-      s.there ∙ ap (stored word plane place planes₀) q
+  storing_step l e = record { within = omega arith; there = rw (add-one p, e, byte_stored word p l, s.there) }
 
 -- ---- place by place
 

@@ -1,7 +1,6 @@
 -- Where the rows of the planes stand.
 -- Assumes nothing.
 use Prim.Native.Nat.{ℕ, zero, suc, ◌+◌, ◌*◌, ◌/◌, ◌%◌, ◌≤◌, ◌<◌}
-use mathlib.Core.Path.{◌≡◌}
 use native.Mathlib.Nat.{mul-le-mul, mod-lt, div-lt_iff_lt-mul}
 use native.Mathlib.Omega.{arith}
 use lib.Arith.{digits_lt}
@@ -10,10 +9,6 @@ use Rattle.plates.specs.Planes.{row_bytes}
 -- the bytes of row r end where those of the next begin, within n rows
 pub row_ends : (n bytes r : ℕ) → r < n → r * bytes + bytes ≤ n * bytes
 row_ends n bytes r k = omega (arith, mul-le-mul {n₁ = r + 1} {m₁ = bytes} {n₂ = n} {m₂ = bytes} (omega arith) (omega arith))
-
--- a place of plane p stands before the end of eight planes
-pub place_of_plane : (plane place p : ℕ) → place < plane → p < 8 → p * plane + place < 8 * plane
-place_of_plane plane place p l k = digits_lt k l
 
 -- byte b of row y stands before the plane's end
 pub place_in : (columns rows y b : ℕ) → y < rows → 8 * b < columns → y * row_bytes columns + b < rows * row_bytes columns
@@ -36,7 +31,3 @@ plane_of rows r l = (div-lt_iff_lt-mul {k = rows} (omega arith)).1 l
 
 pub row_in_plane : (rows r : ℕ) → r < 8 * rows → r % rows < rows
 row_in_plane rows r l = mod-lt r (omega arith)
-
--- a window on the sheet has planes of few enough bytes
-pub planes_few : (columns rows : ℕ) → columns ≤ 65536 → rows ≤ 65536 → (bytes : ℕ) → bytes ≡ row_bytes columns → 8 * rows * bytes ≤ 8 * 65536 * 8192
-planes_few columns rows h k bytes e = mul-le-mul {n₁ = 8 * rows} {m₁ = bytes} {n₂ = 8 * 65536} {m₂ = 8192} (omega arith) (omega arith)

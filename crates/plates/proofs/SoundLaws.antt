@@ -1,6 +1,6 @@
 -- The test place by place: it passes exactly where each pixel is in one plane and the padding is clear; and what follows for planes that may be unpacked.
 -- Assumes nothing.
-use Prim.Native.Nat.{ℕ, ◌+◌, ◌-◌, ◌*◌, ◌/◌, ◌%◌, ◌<◌}
+use Prim.Native.Nat.{ℕ, ◌+◌, ◌-◌, ◌*◌, ◌/◌, ◌%◌, ◌≤◌, ◌<◌}
 use mathlib.Core.Path.{◌≡◌, refl, sym, ap, ◌∙◌}
 use mathlib.Core.Bool.{true, ◌&&◌}
 use mathlib.Core.List.{List}
@@ -9,6 +9,7 @@ use native.Mathlib.Decide.{dec_lt}
 use native.Mathlib.Omega.{arith}
 use lib.Arith.{digits_lt}
 use lib.Dec.{ltb}
+use lib.ListN.{length}
 use borrow.Author.Tests.{lt-ltb, le-ltb, eqb-true, eq-eqb}
 use Rattle.arith.specs.Every.{every}
 use Rattle.arith.specs.Sum.{indicator}
@@ -124,3 +125,12 @@ module _ (columns rows : ℕ) (planes : List ℕ) where
         let whole : t ≡ 8 * (t / 8) + t % 8 = omega arith in
         let again = ap mask whole ∙ mask_repeats (t / 8) (t % 8) in
         rw (again, ← here) (omega (arith, at_place, column, indicator_le (ltb (8 * (place % bytes) + t % 8) columns)))
+
+-- WHAT THE TYPES OF `plates` SAY: the planes of a window that pass the tests may be unpacked, and no pixel is in two of them
+module _ (columns rows : ℕ) (planes : List ℕ) {plane : ℕ} (wide : columns ≤ 65536) (one : plane ≡ rows * row_bytes columns)
+    (eight : length planes ≡ 8 * plane) (sound : pixels_once columns rows planes && padding_clear columns rows planes ≡ true) where
+  pub unpackable : Unpackable columns rows planes
+  unpackable = record { wide = wide; long = omega (arith, one, eight); sound = sound }
+
+  pub apart_told : Apart plane planes
+  apart_told = rw one (planes_apart columns rows planes unpackable)

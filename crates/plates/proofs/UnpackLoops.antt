@@ -14,6 +14,7 @@ use lib.Dec.{eqb}
 use lib.ListN.{length, get_or, take, drop}
 use borrow.Author.Tests.{eqb-true, ne_eqb, lt-ltb, le-ltb}
 use borrow.Rule.Slice.PartMut.{put_mid, same_len_mid}
+use Rattle.std.specs.Int.{from_bool}
 use Rattle.arith.specs.Every.{every}
 use Rattle.arith.specs.Run.{upto}
 use Rattle.arith.specs.Sum.{sum_below, indicator}
@@ -73,6 +74,14 @@ once_fewer plane planes place pixels few e =
     let none : planes_at plane planes place pixels ≡ 0 = eqb-true _ _ (every_passes 8 _ e pixels few) ∙ ap indicator (le-ltb pixels pixels (omega arith)) in
     every_fails 8 _ pixels few (rw (lt-ltb pixels 8 few) (ne_eqb (planes_at plane planes place pixels) 1 (λ one. omega arith)))
 
+-- a test's number
+one_or_none : (test : Bool) → from_bool test ≡ indicator test
+one_or_none true = refl
+one_or_none false = refl
+
+pub one_at_most : (test : Bool) → from_bool test ≤ 1
+one_at_most test = rw (one_or_none test) (indicator_le test)
+
 -- so many of the first b places pass for eight pixels
 pub record FullAt (columns plane : ℕ) (planes : List ℕ) (start passed b : ℕ) : Type 0 where
   pub within : b ≤ row_bytes columns
@@ -87,12 +96,8 @@ module _ {columns plane : ℕ} {planes : List ℕ} {start passed b : ℕ} (s : F
   full_few = rw s.tells (sum_bounded b _ (λ k l. indicator_le (once_at plane planes (start + k) 8)))
 
   -- the next place passes, or it does not
-  module _ (l : b < row_bytes columns) where
-    pub full_more : once_at plane planes (start + b) 8 ≡ true → FullAt columns plane planes start (passed + 1) (b + 1)
-    full_more e = record { within = omega arith; tells = rw (s.tells, sum_next b, e) }
-
-    pub full_kept : once_at plane planes (start + b) 8 ≡ false → FullAt columns plane planes start passed (b + 1)
-    full_kept e = record { within = omega arith; tells = rw (s.tells, sum_next b, e, add-zero) }
+  pub full_next : b < row_bytes columns → {more : ℕ} → more ≡ from_bool (once_at plane planes (start + b) 8) → FullAt columns plane planes start (passed + more) (b + 1)
+  full_next l e = record { within = omega arith; tells = rw (s.tells, sum_next b, e, one_or_none) refl }
 
   module _ (h : row_bytes columns ≤ b) where
     -- each place of eight pixels passes exactly where as many of them pass as there are,

@@ -1,9 +1,9 @@
 // Unpacking: from planes to cells.
-ghost use Rattle.std.specs.Prelude.{ℕ, ◌≡◌, ◌&&◌, ◌+◌, ◌*◌, ◌≤◌, ◌<◌, length, get_or};
+ghost use Rattle.std.specs.Prelude.{ℕ, ◌≡◌, true, ◌&&◌, ◌+◌, ◌*◌, ◌≤◌, ◌<◌, length, get_or};
 ghost use Rattle.arith.specs.Refusal.{number_of};
 ghost use Rattle.arith.specs.Run.{upto};
 ghost use Rattle.plates.specs.Planes.{row_bytes, planes_length, cells_length, cells_of, pixels_once, padding_clear};
-ghost use Rattle.plates.specs.Places.{byte_at, once_at, row_once, full_mask, Unpackable, Roomy, WrittenTo, Apart, colorant_at, row_of, sum_at};
+ghost use Rattle.plates.specs.Places.{byte_at, once_at, row_once, full_mask, Roomy, WrittenTo, colorant_at, row_of, sum_at};
 ghost use Rattle.plates.specs.Refusals.{unpack_refusal, unpacked};
 
 use crate::window::Window;
@@ -26,7 +26,7 @@ pub fn unpack(columns: u32, rows: u32, planes: &[u8], cells: &mut [u8]) -> Resul
     if !eight.sound() {
         return Err(Refusal::Plates);
     }
-    eight.write_cells(cells);
+    Sound { planes: eight }.write_cells(cells);
     Ok(())
 }
 
@@ -72,7 +72,6 @@ impl<'a> Planes<'a> {
     // without an early end, so that the compiler tests many at once: as many must pass as the columns have
     // eights. A last place of fewer pixels is tested by itself; if it is as it should be, it is not among
     // those that passed.
-    #[tactic(auto, using(crate::proofs::UnpackLoops::full_end, crate::proofs::UnpackLoops::full_last))]
     fn row_sound(self, start: usize) -> bool
         requires { start + row_bytes self.window.columns ≤ self.plane }
         ensures { result ≡ row_once self.entry.window.columns self.entry.plane self.entry.bytes.now start }
@@ -80,17 +79,12 @@ impl<'a> Planes<'a> {
         let columns = self.window.columns;
         let mut passed = 0u16;
         for b in 0..self.window.row_bytes() {
-            if self.once_at(start + b, 8) {
-                passed += 1;
-            }
+            passed += u16::from(self.once_at(start + b, 8));
         }
         let full = columns / 8;
-        let sound = passed as usize == full;
         let pixels = columns % 8;
-        if pixels == 0 {
-            return sound;
-        }
-        sound & self.once_at(start + full, pixels)
+        let last = pixels == 0 || self.once_at(start + full, pixels);
+        (usize::from(passed) == full) & last
     }
 
     // Whether each of a place's first pixels is in exactly one plane, and each after them in none: the eight
@@ -107,7 +101,7 @@ impl<'a> Planes<'a> {
         for p in 0..8 {
             let byte = u16::from(self.byte_at(place, p));
             sum += byte;
-            union = union | byte;
+            union |= byte;
         }
         (sum == full) & (union == full)
     }
@@ -121,24 +115,43 @@ impl<'a> Planes<'a> {
         self.bytes[p * self.plane + place]
     }
 
+    // The bytes of four planes at a place, added up.
+    fn sum_of(self, place: usize, p: usize, q: usize, r: usize, s: usize) -> u8
+        requires there { place < self.plane }
+        requires planes { (p < 8) × (q < 8) × (r < 8) × (s < 8) }
+        requires fits { sum_at self.plane self.bytes.now place p q r s < 256 }
+        ensures { result ≡ sum_at self.entry.plane self.entry.bytes.now place p q r s }
+    {
+        self.byte_at(place, p)
+            + self.byte_at(place, q)
+            + self.byte_at(place, r)
+            + self.byte_at(place, s)
+    }
+}
+
+// Planes that may be unpacked: each pixel is in exactly one of them, and no bit past the last column is set.
+#[derive(Clone, Copy)]
+struct Sound<'a> {
+    planes: Planes<'a>,
+    ghost sound: { pixels_once planes.window.columns planes.window.rows planes.bytes.now && padding_clear planes.window.columns planes.window.rows planes.bytes.now ≡ true },
+}
+
+impl Sound<'_> {
     // Writes the colorants of all pixels. Where rows have eight columns or more, each but the last is written
     // with eight pixels at its last place too, so that it has places of eight pixels only; the next row, which
     // has room for the surplus, is then written over it. For a single place this does not pay.
     fn write_cells(self, cells: &mut [u8])
-        requires right { Unpackable self.window.columns self.window.rows self.bytes.now }
-        requires long { length cells.old ≡ cells_length self.window.columns self.window.rows }
-        ensures { cells.new ≡ cells_of self.entry.window.columns self.entry.window.rows self.entry.bytes.now }
+        requires { length cells.old ≡ cells_length self.planes.window.columns self.planes.window.rows }
+        ensures { cells.new ≡ cells_of self.entry.planes.window.columns self.entry.planes.window.rows self.entry.planes.bytes.now }
     {
-        let columns = self.window.columns;
-        let rows = self.window.rows;
-        if rows == 0 {
-            return;
-        }
-        let mut roomy = 0;
-        if columns >= 8 {
-            roomy = rows - 1;
-        }
-        let whole = 8 * self.window.row_bytes();
+        let columns = self.planes.window.columns;
+        let rows = self.planes.window.rows;
+        let roomy = if columns >= 8 {
+            rows.saturating_sub(1)
+        } else {
+            0
+        };
+        let whole = 8 * self.planes.window.row_bytes();
         self.write_rows(0, roomy, whole, cells);
         self.write_rows(roomy, rows, columns, cells);
     }
@@ -146,23 +159,21 @@ impl<'a> Planes<'a> {
     // Writes the rows from one up to another, those before them being written, and so many pixels of each: its
     // columns, or eight at its last place too.
     fn write_rows(self, from: usize, to: usize, pixels: usize, cells: &mut [u8])
-        requires right { Unpackable self.window.columns self.window.rows self.bytes.now }
-        requires roomy { Roomy self.window.columns self.window.rows to pixels }
-        requires before { WrittenTo self.window.columns self.window.rows self.bytes.now cells.old (from * self.window.columns) }
-        ensures { WrittenTo self.entry.window.columns self.entry.window.rows self.entry.bytes.now cells.new (to * self.entry.window.columns) }
+        requires roomy { Roomy self.planes.window.columns self.planes.window.rows to pixels }
+        requires before { WrittenTo self.planes.window.columns self.planes.window.rows self.planes.bytes.now cells.old (from * self.planes.window.columns) }
+        ensures { WrittenTo self.entry.planes.window.columns self.entry.planes.window.rows self.entry.planes.bytes.now cells.new (to * self.entry.planes.window.columns) }
     {
-        let bytes = self.window.row_bytes();
+        let bytes = self.planes.window.row_bytes();
         for y in from..to {
-            let first = y * self.window.columns;
+            let first = y * self.planes.window.columns;
             self.write_row(y * bytes, &mut cells[first..first + pixels]);
         }
     }
 
     // Writes the colorants of the pixels from a place of the planes on, one for each cell that is lent.
     fn write_row(self, start: usize, out: &mut [u8])
-        requires there { start + row_bytes (length out.old) ≤ self.plane }
-        requires apart { Apart self.plane self.bytes.now }
-        ensures { out.new ≡ upto (row_of self.entry.plane self.entry.bytes.now start) (length out.old) }
+        requires { start + row_bytes (length out.old) ≤ self.planes.plane }
+        ensures { out.new ≡ upto (row_of self.entry.planes.plane self.entry.planes.bytes.now start) (length out.old) }
     {
         let count = out.len();
         let full = count / 8;
@@ -179,31 +190,17 @@ impl<'a> Planes<'a> {
     // add up to their union; and a colorant has the bit 1, 2 or 4 where its pixel is in one of the planes
     // whose numbers have that bit.
     fn write_pixels(self, place: usize, out: &mut [u8])
-        requires there { place < self.plane }
+        requires there { place < self.planes.plane }
         requires few { length out.old ≤ 8 }
-        requires apart { Apart self.plane self.bytes.now }
-        ensures { out.new ≡ upto (colorant_at self.entry.plane self.entry.bytes.now place) (length out.old) }
+        ensures { out.new ≡ upto (colorant_at self.entry.planes.plane self.entry.planes.bytes.now place) (length out.old) }
     {
-        let ones = self.sum_of(place, 1, 3, 5, 7);
-        let twos = self.sum_of(place, 2, 3, 6, 7);
-        let fours = self.sum_of(place, 4, 5, 6, 7);
-        for t in 0..out.len() {
+        let ones = self.planes.sum_of(place, 1, 3, 5, 7);
+        let twos = self.planes.sum_of(place, 2, 3, 6, 7);
+        let fours = self.planes.sum_of(place, 4, 5, 6, 7);
+        for (t, pixel) in out.iter_mut().enumerate() {
             let mask = mask_of(t);
-            out[t] = ones / mask % 2 + 2 * (twos / mask % 2) + 4 * (fours / mask % 2);
+            *pixel = ones / mask % 2 + 2 * (twos / mask % 2) + 4 * (fours / mask % 2);
         }
-    }
-
-    // The bytes of four planes at a place, added up.
-    fn sum_of(self, place: usize, p: usize, q: usize, r: usize, s: usize) -> u8
-        requires there { place < self.plane }
-        requires planes { (p < 8) × (q < 8) × (r < 8) × (s < 8) }
-        requires fits { sum_at self.plane self.bytes.now place p q r s < 256 }
-        ensures { result ≡ sum_at self.entry.plane self.entry.bytes.now place p q r s }
-    {
-        self.byte_at(place, p)
-            + self.byte_at(place, q)
-            + self.byte_at(place, r)
-            + self.byte_at(place, s)
     }
 }
 

@@ -29,12 +29,18 @@ returns-then-not-colorants_only c =
     let told = pack_9 window.columns window.rows c.args.cells.now c.args.planes.now size (failed c.colorants_only.ensures c.if-not-colorants_only.true) in
     rw (← same.0, ← same.1) (record { refused = told.0; memory = told.1 })
 
+pub invariant_of-write_planes : goal.invariant_of-write_planes
+invariant_of-write_planes c =
+    let window = c.in_ok-window.window in
+    let lengths = rw (c.cells_length.ensures, c.planes_length.ensures) at c.in_ok-check_lengths.ensures in
+    let size = size_kept _ _ _ _ _ _ (size_passed _ _ _ _ _ _ window.wide window.high lengths) in
+    record { whole = size.1; colorants = passed c.colorants_only.ensures c.if-not-colorants_only.false }
+
 pub write_planes-requires : goal.write_planes-requires
 write_planes-requires c =
     let window = c.in_ok-window.window in
     let lengths = rw (c.cells_length.ensures, c.planes_length.ensures) at c.in_ok-check_lengths.ensures in
-    let size = size_kept _ _ _ _ _ _ (size_passed _ _ _ _ _ _ window.wide window.high lengths) in
-    (record { wide = window.wide; long = size.1; only = passed c.colorants_only.ensures c.if-not-colorants_only.false }, size.2)
+    (size_kept _ _ _ _ _ _ (size_passed _ _ _ _ _ _ window.wide window.high lengths)).2
 
 pub returns : goal.returns
 returns c =

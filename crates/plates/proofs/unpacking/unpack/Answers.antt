@@ -1,6 +1,5 @@
 -- `plates::unpacking::unpack` meets its contract: each return is one law of Refusals. Assumes nothing.
 use mathlib.Core.Path.{◌∙◌}
-use native.Mathlib.Omega.{arith}
 use Rattle.std.proofs.lemmas.Result.{err_from_is_err_and}
 use Rattle.arith.proofs.RefusalLaws.{failed, passed}
 use Rattle.plates.proofs.Refusals.{size_5, size_lengths, size_passed, size_kept, unpack_size_lem, unpack_9, unpack_0}
@@ -39,14 +38,9 @@ returns-then-not-sound c =
 
 pub write_cells-requires : goal.write_cells-requires
 write_cells-requires c =
-    let planes = c.new-eight.result in
-    let lengths = rw (c.planes_length.ensures, c.cells_length.ensures) at c.in_ok-check_lengths.ensures in
     let window = c.in_ok-window.window in
-    let size = size_kept _ _ _ _ _ _ (size_passed _ _ _ _ _ _ window.wide window.high lengths) in
-    record {
-      right = record { wide = planes.window.wide; long = omega (arith, planes.one, planes.eight); sound = passed c.sound.ensures c.if-not-sound.false };
-      long = rw c.new-eight.ensures.same_window size.2;
-    }
+    let lengths = rw (c.planes_length.ensures, c.cells_length.ensures) at c.in_ok-check_lengths.ensures in
+    rw c.new-eight.ensures.same_window (size_kept _ _ _ _ _ _ (size_passed _ _ _ _ _ _ window.wide window.high lengths)).2
 
 pub returns : goal.returns
 returns c =

@@ -1,26 +1,33 @@
 -- `plates::unpacking::Planes::row_sound` meets its contract, by the laws of its loop (UnpackLoops).
 -- Assumes nothing.
-use mathlib.Core.Path.{sym, ◌∙◌}
+use mathlib.Core.Path.{ap, ◌∙◌}
+use mathlib.Core.Bool.{and-true}
+use borrow.Author.Tests.{eq-eqb}
 use native.Mathlib.Omega.{arith}
-use Rattle.plates.proofs.UnpackLoops.{full_start, full_few, full_more, full_kept}
+use Prim.Native.Nat.{◌≤◌}
+use Rattle.std.specs.Int.{from_bool}
+use Rattle.plates.proofs.UnpackLoops.{full_start, full_few, full_next, full_end, full_last, one_at_most}
 use Rattle.plates.proofs.unpacking.Planes.row_sound.Goals as goal
-use Rattle.plates.proofs.unpacking.Planes.row_sound.Goals.{then-once_at, else-once_at}
+use Rattle.plates.proofs.unpacking.Planes.row_sound.Goals.{then-pixels-eq0, else-pixels-eq0}
 
 pub loop-b-init : goal.loop-b-init
 loop-b-init c = full_start _ _ _ _
 
 pub overflow_add-passed : goal.overflow_add-passed
-overflow_add-passed c = omega (arith, full_few c.loop-b.invariant, c.loop-b.invariant.within, c.args.self.window.wide)
+overflow_add-passed c =
+    let one : c.from-passed.result ≤ 1 = rw c.from-passed.ensures (one_at_most c.once_at.result) in
+    omega (arith, full_few c.loop-b.invariant, c.loop-b.invariant.within, c.args.self.window.wide)
 
 pub loop-b-preserved : goal.loop-b-preserved
 loop-b-preserved c =
-    let so_far = c.loop-b.invariant in
-    let within = rw c.row_bytes-b-end.ensures at c.loop-b-test.true in
-    let once = sym c.once_at.ensures in
-    elim c.if-once_at.branch [
-      | then-once_at w ↦ rw w.passed-is (full_more so_far within (once ∙ w.if-once_at.true))
-      | else-once_at w ↦ rw w.passed-is (full_kept so_far within (once ∙ w.if-once_at.false))
-    ]
+    full_next c.loop-b.invariant (rw c.row_bytes-b-end.ensures at c.loop-b-test.true) (c.from-passed.ensures ∙ ap from_bool c.once_at.ensures)
 
-pub overflow_cast-sound : goal.overflow_cast-sound
-overflow_cast-sound c = omega (arith, full_few c.loop-b.invariant, c.loop-b.invariant.within, c.args.self.window.wide)
+pub returns : goal.returns
+returns c =
+    let so_far = c.loop-b.invariant in
+    let ended = rw c.row_bytes-b-end.ensures at c.loop-b-test.false in
+    rw c.from.ensures
+    (elim c.if-pixels-eq0.branch [
+      | then-pixels-eq0 w ↦ rw (w.last-is, eq-eqb _ _ w.if-pixels-eq0.true, and-true) (full_end so_far ended w.if-pixels-eq0.true)
+      | else-pixels-eq0 w ↦ rw w.last-is (full_last so_far ended w.if-pixels-eq0.false w.once_at-last.ensures)
+    ])

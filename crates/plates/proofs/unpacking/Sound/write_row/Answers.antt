@@ -1,11 +1,11 @@
--- `plates::unpacking::Planes::write_row` meets its contract, by the laws of a row's pixels (UnpackLoops). Assumes nothing.
+-- `plates::unpacking::Sound::write_row` meets its contract, by the laws of a row's pixels (UnpackLoops). Assumes nothing.
 use Prim.Native.Nat.{◌+◌, ◌*◌, ◌/◌, ◌%◌}
 use mathlib.Core.Path.{◌≡◌, refl}
 use native.Mathlib.Omega.{arith}
 use lib.ListN.{length}
 use Rattle.arith.proofs.RunLaws.{filling_start, filling_at, filling_whole}
 use Rattle.plates.proofs.UnpackLoops.{row_part}
-use Rattle.plates.proofs.unpacking.Planes.write_row.Goals as goal
+use Rattle.plates.proofs.unpacking.Sound.write_row.Goals as goal
 
 pub loop-b-init : goal.loop-b-init
 loop-b-init c = filling_start _ _
