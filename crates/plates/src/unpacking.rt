@@ -83,7 +83,8 @@ impl<'a> Planes<'a> {
         }
         let full = columns / 8;
         let pixels = columns % 8;
-        let last = pixels == 0 || self.once_at(start + full, pixels);
+        let whole = pixels == 0;
+        let last = whole || self.once_at(start + full, pixels);
         (usize::from(passed) == full) & last
     }
 

@@ -2,13 +2,12 @@
 -- Assumes nothing.
 use mathlib.Core.Path.{ap, ◌∙◌}
 use mathlib.Core.Bool.{and-true}
-use borrow.Author.Tests.{eq-eqb}
 use native.Mathlib.Omega.{arith}
 use Prim.Native.Nat.{◌≤◌}
 use Rattle.std.specs.Int.{from_bool}
 use Rattle.plates.proofs.UnpackLoops.{full_start, full_few, full_next, full_end, full_last, one_at_most}
 use Rattle.plates.proofs.unpacking.Planes.row_sound.Goals as goal
-use Rattle.plates.proofs.unpacking.Planes.row_sound.Goals.{then-pixels-eq0, else-pixels-eq0}
+use Rattle.plates.proofs.unpacking.Planes.row_sound.Goals.{then-whole, else-whole}
 
 pub loop-b-init : goal.loop-b-init
 loop-b-init c = full_start _ _ _ _
@@ -27,7 +26,7 @@ returns c =
     let so_far = c.loop-b.invariant in
     let ended = rw c.row_bytes-b-end.ensures at c.loop-b-test.false in
     rw c.from.ensures
-    (elim c.if-pixels-eq0.branch [
-      | then-pixels-eq0 w ↦ rw (w.last-is, eq-eqb _ _ w.if-pixels-eq0.true, and-true) (full_end so_far ended w.if-pixels-eq0.true)
-      | else-pixels-eq0 w ↦ rw w.last-is (full_last so_far ended w.if-pixels-eq0.false w.once_at-last.ensures)
+    (elim c.if-whole.branch [
+      | then-whole w ↦ rw (w.last-is, w.if-whole.true, and-true) (full_end so_far ended w.if-whole.true)
+      | else-whole w ↦ rw w.last-is (full_last so_far ended w.if-whole.false w.once_at-last.ensures)
     ])
