@@ -4,6 +4,8 @@
 // order, equal counts, and runs of the right length and of others. The file stdout holds what this must print.
 #![tactic(auto)]
 
+ghost use Rattle.std.specs.Prelude.{◌<◌};
+
 use predict::{CellularError, PredictionError, Xyz};
 use screen::Screen;
 use separation::{Inks, Separation};
