@@ -219,6 +219,7 @@ module _ {F B : Type 0} (g : Mut F (ℕ × Unit {0}) B) (h : ℕ → B) (f : F) 
 abbrev bad : List Xyz → ℕ → Bool
 bad ps j = not (admitted (primary ps j))
 
+-- the first that has one, from a search that says what it found
 pub bad_found : (ps : List Xyz) → length ps ≡ 8 → (r : Option ℕ)
     → MatchOption r (AllWithin (λ p. admitted p ≡ true) ps 0 (length ps))
     (λ i. (i < length ps) × HoldsAt (λ p. admitted p ≡ false) ps i × AllWithin (λ p. admitted p ≡ true) ps 0 i)

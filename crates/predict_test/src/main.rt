@@ -4,17 +4,18 @@
 // order, equal counts, and runs of the right length and of others. The file stdout holds what this must print.
 #![tactic(auto)]
 
+ghost use Rattle.std.specs.Prelude.{◌<◌};
+
 use predict::{CellularError, PredictionError, Xyz};
 use screen::Screen;
 use separation::{Inks, Separation};
 use std::fmt;
-use std::io;
 
 // The values of a run: 765, which are the records of all sets, and others beyond them.
 const LENGTH: usize = 2048;
 
-// Runs of whole numbers, of drawn hundredths, of a few times the smallest number above 0, and of the
-// hundredths with a bad value in the first place.
+// Runs of whole numbers, of drawn hundredths, of which some from place 1700 on are bad, of a few times the
+// smallest number above 0, and of the hundredths with a bad value in the first place.
 #[derive(Drop)]
 struct Runs {
     whole: [f64; LENGTH],
@@ -23,29 +24,50 @@ struct Runs {
     bad: [f64; LENGTH],
 }
 
-fn main(rt: HostRuntime) -> io::Result<()> {
-    let uneven = run_of(|place, draw| if place < 1700 { hundredths(draw, 20001) } else { hundredths(draw, 20100) });
+// Standard output.
+#[derive(Clone, Copy)]
+struct Out;
+
+impl fmt::Write for Out {
+    fn write_str(&mut self, text: &str) -> fmt::Result {
+        if io::write_all(1, text.as_bytes()) {
+            Ok(())
+        } else {
+            Err(fmt::Error)
+        }
+    }
+}
+
+fn main() {
+    let _ = show_all(&mut Out);
+}
+
+fn show_all(out: &mut impl fmt::Write) -> fmt::Result {
+    let uneven = run_of(|place, draw| hundredths(draw, if place < 1700 { 20001 } else { 20100 }));
     let runs = Runs {
         whole: run_of(|place, _| whole_value(place / 3 % 255 + 1, place % 3)),
         uneven,
         small: run_of(|place, _| f64::from(place % 7) * 5e-324),
         bad: with_value(&uneven, 0, -1.0),
     };
-    println!(rt; "# primaries or records, a b n k g, separation, c m y: answer")?;
-    full_tones(&rt, &runs)?;
-    uneven_sums(&rt, &runs)?;
-    orders(&rt, &runs)?;
-    ties(&rt, &runs)?;
-    limits(&rt, &runs)?;
-    places(&rt)?;
-    set_places(&rt, &runs)?;
-    refusals(&rt, &runs)?;
-    mixed(&rt, &runs)?;
-    stored(&rt, &runs)
+    writeln!(
+        out,
+        "# primaries or records, a b n k g, separation, c m y: answer"
+    )?;
+    full_tones(out, &runs)?;
+    uneven_sums(out, &runs)?;
+    orders(out, &runs)?;
+    ties(out, &runs)?;
+    limits(out, &runs)?;
+    places(out)?;
+    set_places(out, &runs)?;
+    refusals(out, &runs)?;
+    mixed(out, &runs)?;
+    stored(out, &runs)
 }
 
 // One colorant alone, of 105, 1 and 4096 cells.
-fn full_tones(rt: &impl Print, runs: &Runs) -> io::Result<()> {
+fn full_tones(out: &mut impl fmt::Write, runs: &Runs) -> fmt::Result {
     for s in [
         listed(),
         screen_of(1, 2, 1, 1, 0),
@@ -61,16 +83,16 @@ fn full_tones(rt: &impl Print, runs: &Runs) -> io::Result<()> {
             inks_of(255, 255, 255),
             inks_of(0, 0, 0),
         ] {
-            show_whole(rt, s, inks, runs)?;
+            show_whole(out, s, inks, runs)?;
         }
-        show_uneven(rt, s, inks_of(255, 0, 0), runs)?;
-        show_uneven(rt, s, inks_of(0, 0, 0), runs)?;
+        show_uneven(out, s, inks_of(255, 0, 0), runs)?;
+        show_uneven(out, s, inks_of(0, 0, 0), runs)?;
     }
     Ok(())
 }
 
 // Sums that are rounded, of whole numbers and of others.
-fn uneven_sums(rt: &impl Print, runs: &Runs) -> io::Result<()> {
+fn uneven_sums(out: &mut impl fmt::Write, runs: &Runs) -> fmt::Result {
     for s in [
         listed(),
         screen_of(1, 2, 1, 1, 0),
@@ -79,17 +101,17 @@ fn uneven_sums(rt: &impl Print, runs: &Runs) -> io::Result<()> {
         screen_of(63, 64, 4095, 7, 0),
         screen_of(63, 64, 4096, 16, 4095),
     ] {
-        show_uneven(rt, s, inks_of(128, 128, 0), runs)?;
-        show_uneven(rt, s, inks_of(51, 102, 204), runs)?;
-        show_uneven(rt, s, inks_of(200, 90, 140), runs)?;
-        show_whole(rt, s, inks_of(13, 77, 250), runs)?;
-        show_sets_of_both(rt, "small", s, inks_of(200, 90, 140), &runs.small)?;
+        show_uneven(out, s, inks_of(128, 128, 0), runs)?;
+        show_uneven(out, s, inks_of(51, 102, 204), runs)?;
+        show_uneven(out, s, inks_of(200, 90, 140), runs)?;
+        show_whole(out, s, inks_of(13, 77, 250), runs)?;
+        show_sets_of_both(out, "small", s, inks_of(200, 90, 140), &runs.small)?;
     }
     Ok(())
 }
 
 // Counts by the three inks in every order.
-fn orders(rt: &impl Print, runs: &Runs) -> io::Result<()> {
+fn orders(out: &mut impl fmt::Write, runs: &Runs) -> fmt::Result {
     for inks in [
         inks_of(40, 99, 211),
         inks_of(40, 211, 99),
@@ -98,20 +120,20 @@ fn orders(rt: &impl Print, runs: &Runs) -> io::Result<()> {
         inks_of(211, 40, 99),
         inks_of(211, 99, 40),
     ] {
-        show_sets_of_both(rt, "uneven", listed(), inks, &runs.uneven)?;
+        show_sets_of_both(out, "uneven", listed(), inks, &runs.uneven)?;
     }
     Ok(())
 }
 
 // Two to eight equal counts.
-fn ties(rt: &impl Print, runs: &Runs) -> io::Result<()> {
+fn ties(out: &mut impl fmt::Write, runs: &Runs) -> fmt::Result {
     for s in [screen_of(4, 7, 8, 1, 0), screen_of(4, 7, 24, 4, 3)] {
         for inks in [
             inks_of(128, 128, 128),
             inks_of(64, 128, 191),
             inks_of(85, 170, 85),
         ] {
-            show_sets_of_both(rt, "uneven", s, inks, &runs.uneven)?;
+            show_sets_of_both(out, "uneven", s, inks, &runs.uneven)?;
         }
     }
     Ok(())
@@ -119,7 +141,7 @@ fn ties(rt: &impl Print, runs: &Runs) -> io::Result<()> {
 
 // Values beside the limits and far from them, at the first and at the last colorant, in a set with weight and
 // in one without.
-fn limits(rt: &impl Print, runs: &Runs) -> io::Result<()> {
+fn limits(out: &mut impl fmt::Write, runs: &Runs) -> fmt::Result {
     for (name, v) in [
         ("200", 200.0),
         ("199.99999999999997", 199.99999999999997),
@@ -142,20 +164,20 @@ fn limits(rt: &impl Print, runs: &Runs) -> io::Result<()> {
             sep: Separation::Demichel,
             inks: inks_of(200, 90, 140),
         };
-        print!(rt; "0 x = ")?;
-        call.show(rt, with_first(v))?;
-        print!(rt; "7 z = ")?;
-        call.show(rt, with_last(v))?;
-        print!(rt; "set 89 x = ")?;
-        call.show_sets(rt, &with_value(&runs.uneven, 264, v), 0, 765)?;
-        print!(rt; "set 223 z = ")?;
-        call.show_sets(rt, &with_value(&runs.uneven, 668, v), 0, 765)?;
+        write!(out, "0 x = ")?;
+        call.show(out, with_first(v))?;
+        write!(out, "7 z = ")?;
+        call.show(out, with_last(v))?;
+        write!(out, "set 89 x = ")?;
+        call.show_sets(out, &with_value(&runs.uneven, 264, v), 0, 765)?;
+        write!(out, "set 223 z = ")?;
+        call.show_sets(out, &with_value(&runs.uneven, 668, v), 0, 765)?;
     }
     Ok(())
 }
 
 // A bad Y at each colorant, that of the last being bad too.
-fn places(rt: &impl Print) -> io::Result<()> {
+fn places(out: &mut impl fmt::Write) -> fmt::Result {
     let call = Call {
         name: "nan",
         s: listed(),
@@ -169,14 +191,14 @@ fn places(rt: &impl Print) -> io::Result<()> {
             y: 0.0 / 0.0,
             z: 1.0,
         };
-        print!(rt; "{j} y = ")?;
-        call.show(rt, ps)?;
+        write!(out, "{j} y = ")?;
+        call.show(out, ps)?;
     }
     Ok(())
 }
 
 // A bad value in the first, the last and other sets, the last place of all being bad too.
-fn set_places(rt: &impl Print, runs: &Runs) -> io::Result<()> {
+fn set_places(out: &mut impl fmt::Write, runs: &Runs) -> fmt::Result {
     let run = with_value(&runs.uneven, 764, -1.0);
     let call = Call {
         name: "nan",
@@ -187,25 +209,25 @@ fn set_places(rt: &impl Print, runs: &Runs) -> io::Result<()> {
     for place in [
         0, 1, 2, 3, 5, 6, 264, 266, 380, 381, 383, 384, 668, 761, 762, 764,
     ] {
-        print!(rt; "place {place} = ")?;
-        call.show_sets(rt, &with_value(&run, place, 0.0 / 0.0), 0, 765)?;
+        write!(out, "place {place} = ")?;
+        call.show_sets(out, &with_value(&run, place, 0.0 / 0.0), 0, 765)?;
     }
     Ok(())
 }
 
 // Lengths beside the right one, and others; and bad screens.
-fn refusals(rt: &impl Print, runs: &Runs) -> io::Result<()> {
+fn refusals(out: &mut impl fmt::Write, runs: &Runs) -> fmt::Result {
     for (name, run) in [("uneven", &runs.uneven), ("set 1 x = -1", &runs.bad)] {
         for length in [0, 1, 24, 762, 764, 765, 766, 768] {
-            show_length(rt, name, listed(), run, length)?;
+            show_length(out, name, listed(), run, length)?;
         }
     }
-    bad_screens(rt, runs)
+    bad_screens(out, runs)
 }
 
 // Refusals 1 to 4, at their limits, with good primaries and with a bad one, and with runs of right and of
 // wrong length.
-fn bad_screens(rt: &impl Print, runs: &Runs) -> io::Result<()> {
+fn bad_screens(out: &mut impl fmt::Write, runs: &Runs) -> fmt::Result {
     for s in [
         screen_of(4, 8, 105, 2, 0),
         screen_of(0, 7, 105, 2, 0),
@@ -220,37 +242,37 @@ fn bad_screens(rt: &impl Print, runs: &Runs) -> io::Result<()> {
         screen_of(4, 8, 0, 0, 0),
         screen_of(4, 7, 5, 6, 5),
     ] {
-        refused(rt, s, runs)?;
+        refused(out, s, runs)?;
     }
     Ok(())
 }
 
-fn refused(rt: &impl Print, s: Screen, runs: &Runs) -> io::Result<()> {
+fn refused(out: &mut impl fmt::Write, s: Screen, runs: &Runs) -> fmt::Result {
     let inks = inks_of(255, 0, 0);
-    show_both(rt, "whole", s, inks, whole())?;
-    print!(rt; "0 x = ")?;
+    show_both(out, "whole", s, inks, whole())?;
+    write!(out, "0 x = ")?;
     let call = Call {
         name: "nan",
         s,
         sep: Separation::Kueppers,
         inks,
     };
-    call.show(rt, with_first(0.0 / 0.0))?;
-    show_sets_of_both(rt, "uneven", s, inks, &runs.uneven)?;
-    show_length(rt, "uneven", s, &runs.uneven, 764)?;
-    show_length(rt, "set 1 x = -1", s, &runs.bad, 765)?;
-    show_length(rt, "set 1 x = -1", s, &runs.bad, 766)
+    call.show(out, with_first(0.0 / 0.0))?;
+    show_sets_of_both(out, "uneven", s, inks, &runs.uneven)?;
+    show_length(out, "uneven", s, &runs.uneven, 764)?;
+    show_length(out, "set 1 x = -1", s, &runs.bad, 765)?;
+    show_length(out, "set 1 x = -1", s, &runs.bad, 766)
 }
 
 // Refusal 15 of each stored number, in the same calls; and 3 before it.
-fn stored(rt: &impl Print, runs: &Runs) -> io::Result<()> {
+fn stored(out: &mut impl fmt::Write, runs: &Runs) -> fmt::Result {
     for (k, columns, rows, shift) in [
         (2, 106, 1, 77),
         (2, 105, 2, 77),
         (2, 105, 1, 182),
         (17, 105, 1, 182),
     ] {
-        println!(rt; "# stored {columns} {rows} {shift}")?;
+        writeln!(out, "# stored {columns} {rows} {shift}")?;
         let s = Screen {
             a: 4,
             b: 7,
@@ -261,21 +283,21 @@ fn stored(rt: &impl Print, runs: &Runs) -> io::Result<()> {
             rows,
             shift,
         };
-        refused(rt, s, runs)?;
+        refused(out, s, runs)?;
     }
     Ok(())
 }
 
 // Screens, ink values and primaries that are drawn one from the other, from each start, and from every
 // second one records that begin at a drawn place.
-fn mixed(rt: &impl Print, runs: &Runs) -> io::Result<()> {
+fn mixed(out: &mut impl fmt::Write, runs: &Runs) -> fmt::Result {
     for start in 0..80 {
-        mixed_case(rt, start, runs)?;
+        mixed_case(out, start, runs)?;
     }
     Ok(())
 }
 
-fn mixed_case(rt: &impl Print, start: u32, runs: &Runs) -> io::Result<()> {
+fn mixed_case(out: &mut impl fmt::Write, start: u32, runs: &Runs) -> fmt::Result {
     let a = next(start);
     let b = next(a);
     let n = next(b);
@@ -288,10 +310,10 @@ fn mixed_case(rt: &impl Print, start: u32, runs: &Runs) -> io::Result<()> {
     let high = low + upper(b) % 2 + 1;
     let s = screen_of(low, high, upper(n) % 4200, upper(k) % 18, upper(g) % 100);
     let inks = inks_of(lowest(upper(c)), lowest(upper(m)), lowest(upper(y)));
-    show_both(rt, "drawn", s, inks, drawn(y))?;
+    show_both(out, "drawn", s, inks, drawn(y))?;
     if start % 2 == 0 {
         let from = (upper(y) % 1283) as usize;
-        show_parts_of_both(rt, "drawn", s, inks, &runs.uneven, from)?;
+        show_parts_of_both(out, "drawn", s, inks, &runs.uneven, from)?;
     }
     Ok(())
 }
@@ -349,11 +371,12 @@ fn next(n: u32) -> u32 {
     n.wrapping_mul(1664525).wrapping_add(1013904223)
 }
 
-// The upper half of a drawn number, the lower one being too regular; and the lowest byte of a number.
+// The upper half of a drawn number, the lower one being too regular.
 fn upper(n: u32) -> u32 {
     n >> 16
 }
 
+// The lowest byte of a number.
 fn lowest(n: u32) -> u8 {
     (n & 0xff) as u8
 }
@@ -430,70 +453,70 @@ fn inks_of(c: u8, m: u8, y: u8) -> Inks {
     Inks { c, m, y }
 }
 
-fn show_whole(rt: &impl Print, s: Screen, inks: Inks, runs: &Runs) -> io::Result<()> {
-    show_both(rt, "whole", s, inks, whole())?;
-    show_sets_of_both(rt, "whole", s, inks, &runs.whole)
+fn show_whole(out: &mut impl fmt::Write, s: Screen, inks: Inks, runs: &Runs) -> fmt::Result {
+    show_both(out, "whole", s, inks, whole())?;
+    show_sets_of_both(out, "whole", s, inks, &runs.whole)
 }
 
-fn show_uneven(rt: &impl Print, s: Screen, inks: Inks, runs: &Runs) -> io::Result<()> {
-    show_both(rt, "uneven", s, inks, uneven())?;
-    show_sets_of_both(rt, "uneven", s, inks, &runs.uneven)
+fn show_uneven(out: &mut impl fmt::Write, s: Screen, inks: Inks, runs: &Runs) -> fmt::Result {
+    show_both(out, "uneven", s, inks, uneven())?;
+    show_sets_of_both(out, "uneven", s, inks, &runs.uneven)
 }
 
 // By both separations: primaries, and the sets of a run from its first place or from another on.
 fn show_both(
-    rt: &impl Print,
+    out: &mut impl fmt::Write,
     name: &str,
     s: Screen,
     inks: Inks,
     ps: [Xyz; 8],
-) -> io::Result<()> {
+) -> fmt::Result {
     for sep in [Separation::Demichel, Separation::Kueppers] {
-        Call { name, s, sep, inks }.show(rt, ps)?;
+        Call { name, s, sep, inks }.show(out, ps)?;
     }
     Ok(())
 }
 
 fn show_sets_of_both(
-    rt: &impl Print,
+    out: &mut impl fmt::Write,
     name: &str,
     s: Screen,
     inks: Inks,
     run: &[f64],
-) -> io::Result<()> {
-    show_parts_of_both(rt, name, s, inks, run, 0)
+) -> fmt::Result {
+    show_parts_of_both(out, name, s, inks, run, 0)
 }
 
 fn show_parts_of_both(
-    rt: &impl Print,
+    out: &mut impl fmt::Write,
     name: &str,
     s: Screen,
     inks: Inks,
     run: &[f64],
     from: usize,
-) -> io::Result<()> {
+) -> fmt::Result {
     for sep in [Separation::Demichel, Separation::Kueppers] {
-        Call { name, s, sep, inks }.show_sets(rt, run, from, 765)?;
+        Call { name, s, sep, inks }.show_sets(out, run, from, 765)?;
     }
     Ok(())
 }
 
 // So many values of a run.
 fn show_length(
-    rt: &impl Print,
+    out: &mut impl fmt::Write,
     name: &str,
     s: Screen,
     run: &[f64],
     length: usize,
-) -> io::Result<()> {
-    print!(rt; "length {length}, ")?;
+) -> fmt::Result {
+    write!(out, "length {length}, ")?;
     let call = Call {
         name,
         s,
         sep: Separation::Kueppers,
         inks: inks_of(51, 102, 204),
     };
-    call.show_sets(rt, run, 0, length)
+    call.show_sets(out, run, 0, length)
 }
 
 // What is called with: the name of the primaries or the records, the screen, the separation and the inks.
@@ -506,24 +529,24 @@ struct Call<'a> {
 }
 
 impl Call<'_> {
-    fn show(&self, rt: &impl Print, ps: [Xyz; 8]) -> io::Result<()> {
+    fn show(&self, out: &mut impl fmt::Write, ps: [Xyz; 8]) -> fmt::Result {
         let answer = Plain(predict::predict(self.s, self.sep, self.inks, ps));
-        println!(rt; "{self}: {answer}")
+        writeln!(out, "{self}: {answer}")
     }
 
     // Lends so many places of a run, from one on, where it has them.
     fn show_sets(
         &self,
-        rt: &impl Print,
+        out: &mut impl fmt::Write,
         run: &[f64],
         from: usize,
         length: usize,
-    ) -> io::Result<()> {
+    ) -> fmt::Result {
         let Some(sets) = run.get(from..).and_then(|rest| rest.get(..length)) else {
             return Ok(());
         };
         let answer = Sets(predict::predict_cellular(self.s, self.sep, self.inks, sets));
-        println!(rt; "{self}: {answer}")
+        writeln!(out, "{self}: {answer}")
     }
 }
 
@@ -573,7 +596,13 @@ struct Values(Xyz);
 
 impl fmt::Display for Values {
     fn fmt<W: fmt::Write>(&self, f: &mut fmt::Formatter<W>) -> fmt::Result {
-        write!(f, "{} {} {}", Bits(self.0.x), Bits(self.0.y), Bits(self.0.z))
+        write!(
+            f,
+            "{} {} {}",
+            Bits(self.0.x),
+            Bits(self.0.y),
+            Bits(self.0.z)
+        )
     }
 }
 
