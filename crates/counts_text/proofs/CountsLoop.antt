@@ -1,21 +1,19 @@
 -- The loop that writes the lines of counts: those of the first P lines are written, and there is room for all.
 -- Assumes nothing.
-use Prim.Native.Nat.{ℕ, ◌+◌, ◌-◌, ◌≤◌, ◌<◌}
+use Prim.Native.Nat.{ℕ, ◌+◌, ◌≤◌, ◌<◌}
 use mathlib.Core.Path.{◌≡◌, refl, sym, ap}
 use mathlib.Core.List.{List}
 use native.Mathlib.Omega.{arith}
-use lib.ListN.{length, take, drop, length-append, length-take, length-drop}
-use borrow.Author.Tests.{lt-ltb}
-use borrow.Rule.Slice.PartMut.{put_mid}
+use lib.ListN.{length, length-append}
 use Rattle.arith.specs.Run.{upto}
 use Rattle.screen.specs.declared.Screen.{Screen}
 use Rattle.separation.specs.declared.Separation.{Separation}
 use Rattle.separation.specs.declared.Inks.{Inks}
 use Rattle.quantiser.specs.Running.{count}
-use Rattle.counts_text.specs.Text.{newline, lines, line_at, joined}
+use Rattle.counts_text.specs.Text.{newline, line_at, joined}
 use Rattle.counts_text.specs.Lines.{letter_c, separation_in, inks_in, line_of, counts_line}
-use Rattle.counts_text.specs.Parsers.{Parted, Patch, ArePatches, lines_of_counts}
-use Rattle.counts_text.proofs.SplitLaws.{Reached, reached_start, reached_piece, reached_count, reached_next}
+use Rattle.counts_text.specs.Parsers.{Parted, ArePatches, lines_of_counts}
+use Rattle.counts_text.proofs.SplitLaws.{Reached, reached_start, reached_piece, reached_next}
 use Rattle.counts_text.proofs.JoinedLaws.{joined_next, joined_within}
 use Rattle.counts_text.specs.declared.writing.Output.{Output}
 use Rattle.counts_text.specs.Output.{Puts}
@@ -39,20 +37,7 @@ counts_start s text patches out good room =
     record { good = good; room = room; within = omega arith; here = reached_start newline text; puts = puts_none out }
 
 module _ {s : Screen} {text : List ℕ} {patches : ℕ} {start out : Output} {rest : List ℕ} {p : ℕ} (c : CountsAt s text patches start out rest p) where
-  pub counts_end : patches ≤ p → Puts (lines_of_counts s text patches) start out
-  counts_end h =
-      let e : p ≡ patches = omega (arith, c.within) in
-      puts_as c.puts (ap (λ (k : ℕ). joined k (written s text)) e)
-
   module _ (l : p < patches) where
-    -- the next line is a P line
-    pub counts_patch : Patch rest
-    counts_patch =
-        record {
-          ended = lt-ltb 1 (length (lines rest)) (omega (arith, c.good.many, reached_count c.here));
-          form = rw (sym (reached_piece c.here)) (c.good.form p l);
-        }
-
     module _ (sep : Separation) (inks : Inks) (a : sep ≡ separation_in (line_at rest 0)) (b : inks ≡ inks_in (line_at rest 0)) where
       -- the counts that are answered make its line
       line_lem : (counts : List ℕ) → counts ≡ upto (count s sep inks) 8 → line_of letter_c counts ≡ written s text p

@@ -1,10 +1,12 @@
 -- Laws of `Wrote` and `Puts`: what is written one after the other is written as one run.
 -- Assumes nothing.
-use Prim.Native.Nat.{ℕ}
-use mathlib.Core.Path.{◌≡◌, refl, sym, ◌∙◌, subst}
-use mathlib.Core.List.{List, [], ◌++◌, append_assoc, append-nil}
+use Prim.Native.Nat.{ℕ, suc, ◌+◌, ◌<◌}
+use mathlib.Core.Path.{◌≡◌, refl, sym, ap, ◌∙◌, subst}
+use mathlib.Core.List.{List, [], ◌∷◌, ◌++◌, append_assoc, append-nil}
+use native.Mathlib.Numerals.{add-one}
 use native.Mathlib.Omega.{arith}
-use lib.ListN.{length, length-append}
+use lib.ListN.{length, get_or, set, drop, length-append, length-drop}
+use lib.Seq.{set_at, drop-cons, append_snoc}
 use Rattle.counts_text.specs.Text.{Wrote}
 use Rattle.counts_text.specs.declared.writing.Output.{Output}
 use Rattle.counts_text.specs.Output.{Puts}
@@ -12,6 +14,15 @@ use Rattle.counts_text.specs.Output.{Puts}
 -- the same run in other words
 pub wrote_as : {run words before after : List ℕ} {r : ℕ} → Wrote run before after r → run ≡ words → Wrote words before after r
 wrote_as {run} {words} {before} {after} {r} w e = subst (λ (l : List ℕ). Wrote l before after r) e w
+
+-- one byte more
+pub wrote_byte : {run before after : List ℕ} {r : ℕ} → Wrote run before after r → (x : ℕ) → r < length after → Wrote (run ++ x ∷ []) before (set after r x) (r + 1)
+wrote_byte {run} {before} {after} {r} w x l =
+    let room : r < length before = omega (arith, w.many, simp (length-append, length-drop) at (ap length w.memory)) in
+    record {
+      many = rw (w.many, length-append);
+      memory = rw (w.memory, drop-cons before r 0 room, add-one) (set_at run (get_or before r 0) (drop (suc r) before) x r (sym w.many) ∙ sym (append_snoc run x (drop (suc r) before)));
+    }
 
 pub puts_as : {run words : List ℕ} {before after : Output} → Puts run before after → run ≡ words → Puts words before after
 puts_as {run} {words} {before} {after} p e = subst (λ (l : List ℕ). Puts l before after) e p

@@ -29,11 +29,11 @@ returns-then-input-gt65536 c =
 pub returns : goal.returns
 returns c = elim c.match-judge.branch [
   | in-Ok w ↦
-    let says = w.in-Ok.ensures in
-    let told =
-    promised c.args.input.now (search rules) refl w.put_counts.ensures (good_counts _ _ _ says.0 says.3 _ says.1 ∙ good_text _ (omega arith) _ says.0) _ w.output-is in
-    record { answer = told.0; text = told.1.0; fits = told.1.1 }
+      let says = w.in-Ok.ensures in
+      let told =
+      promised c.args.input.now (search rules) refl w.put_counts.ensures (good_counts _ _ _ says.0 says.3 _ says.1 ∙ good_text _ (omega arith) _ says.0) _ w.output-is in
+      record { answer = told.0; text = told.1.0; fits = told.1.1 }
   | in-Err w ↦
-    let told = promised c.args.input.now (search rules) refl w.put_error-in-Err.ensures (bad_text _ (omega arith) _ _ w.in-Err.ensures) _ w.output-is in
-    record { answer = told.0; text = told.1.0; fits = told.1.1 }
+      let told = promised c.args.input.now (search rules) refl w.put_error-in-Err.ensures (bad_text _ (omega arith) _ _ w.in-Err.ensures) _ w.output-is in
+      record { answer = told.0; text = told.1.0; fits = told.1.1 }
 ]

@@ -1,9 +1,8 @@
 -- `counts_text::writing::Output::put_number` meets its contract: the numeral of the tenth part, then the last digit. Assumes nothing.
 use Prim.Native.Nat.{ℕ, ◌+◌, ◌/◌, ◌%◌, ◌≤◌, ◌<◌}
 use mathlib.Core.Path.{◌≡◌, sym, ap, ◌∙◌}
-use mathlib.Core.List.{List, [], ◌∷◌}
+use mathlib.Core.List.{[], ◌∷◌}
 use native.Mathlib.Omega.{arith}
-use lib.ListN.{length}
 use Rattle.counts_text.specs.Numbers.{numeral}
 use Rattle.counts_text.specs.declared.writing.Output.{Output}
 use Rattle.counts_text.specs.Output.{Puts}
