@@ -1,65 +1,43 @@
 -- The loop that writes the lines of counts: those of the first P lines are written, and there is room for all.
 -- Assumes nothing.
-use Prim.Native.Nat.{ℕ, ◌+◌, ◌-◌, ◌≤◌, ◌<◌}
+use Prim.Native.Nat.{ℕ, ◌+◌, ◌≤◌, ◌<◌}
 use mathlib.Core.Path.{◌≡◌, refl, sym, ap}
 use mathlib.Core.List.{List}
 use native.Mathlib.Omega.{arith}
-use lib.ListN.{length, take, drop, length-append, length-take, length-drop}
-use borrow.Author.Tests.{lt-ltb}
-use borrow.Rule.Slice.PartMut.{put_mid}
+use lib.ListN.{length, length-append}
 use Rattle.arith.specs.Run.{upto}
 use Rattle.screen.specs.declared.Screen.{Screen}
 use Rattle.separation.specs.declared.Separation.{Separation}
 use Rattle.separation.specs.declared.Inks.{Inks}
 use Rattle.quantiser.specs.Running.{count}
-use Rattle.counts_text.specs.Text.{newline, lines, line_at, joined, Wrote}
+use Rattle.counts_text.specs.Text.{newline, line_at, joined}
 use Rattle.counts_text.specs.Lines.{letter_c, separation_in, inks_in, line_of, counts_line}
-use Rattle.counts_text.specs.Parsers.{Parted, Patch, ArePatches, lines_of_counts}
-use Rattle.counts_text.proofs.SplitLaws.{Reached, reached_start, reached_piece, reached_count, reached_next}
+use Rattle.counts_text.specs.Parsers.{Parted, ArePatches, lines_of_counts}
+use Rattle.counts_text.proofs.SplitLaws.{Reached, reached_start, reached_piece, reached_next}
 use Rattle.counts_text.proofs.JoinedLaws.{joined_next, joined_within}
-use Rattle.counts_text.proofs.WroteLaws.{wrote_none, wrote_as, wrote_part, wrote_length}
+use Rattle.counts_text.specs.declared.writing.Output.{Output}
+use Rattle.counts_text.specs.Output.{Puts}
+use Rattle.counts_text.proofs.WroteLaws.{puts_none, puts_as, puts_then}
 
 -- the line that is written for P line i, counted from 0
 abbrev written : Screen → List ℕ → ℕ → List ℕ
 written s text i = counts_line s (line_at text i)
 
-pub record CountsAt (s : Screen) (text : List ℕ) (patches : ℕ) (out₀ out rest : List ℕ) (done p : ℕ) : Type 0 where
+pub record CountsAt (s : Screen) (text : List ℕ) (patches : ℕ) (start out : Output) (rest : List ℕ) (p : ℕ) : Type 0 where
   pub good : ArePatches text patches
-  pub room : length (lines_of_counts s text patches) ≤ length out₀
+  pub room : start.done + length (lines_of_counts s text patches) ≤ length start.text.now
   pub within : p ≤ patches
   pub here : Reached newline text rest p
-  pub wrote : Wrote (joined p (written s text)) out₀ out done
+  pub puts : Puts (joined p (written s text)) start out
 
-pub counts_start : (s : Screen) (text : List ℕ) (patches : ℕ) (out : List ℕ) → ArePatches text patches
-    → length (lines_of_counts s text patches) ≤ length out → CountsAt s text patches out out text 0 0
+pub counts_start : (s : Screen) (text : List ℕ) (patches : ℕ) (out : Output) → ArePatches text patches
+    → out.done + length (lines_of_counts s text patches) ≤ length out.text.now → CountsAt s text patches out out text 0
 unfolding joined
 counts_start s text patches out good room =
-    record { good = good; room = room; within = omega arith; here = reached_start newline text; wrote = wrote_none out }
+    record { good = good; room = room; within = omega arith; here = reached_start newline text; puts = puts_none out }
 
-module _ {s : Screen} {text : List ℕ} {patches : ℕ} {out₀ out rest : List ℕ} {done p : ℕ} (c : CountsAt s text patches out₀ out rest done p) where
-  room_here : length (joined p (written s text)) ≤ length out₀
-  room_here = omega (arith, c.room, joined_within patches p (written s text) c.within)
-
-  pub counts_kept : length out ≡ length out₀
-  counts_kept = wrote_length c.wrote room_here
-
-  pub counts_place : done ≤ length out
-  counts_place = omega (arith, room_here, counts_kept, c.wrote.many)
-
-  pub counts_end : patches ≤ p → Wrote (lines_of_counts s text patches) out₀ out done
-  counts_end h =
-      let e : p ≡ patches = omega (arith, c.within) in
-      wrote_as c.wrote (ap (λ (k : ℕ). joined k (written s text)) e)
-
+module _ {s : Screen} {text : List ℕ} {patches : ℕ} {start out : Output} {rest : List ℕ} {p : ℕ} (c : CountsAt s text patches start out rest p) where
   module _ (l : p < patches) where
-    -- the next line is a P line
-    pub counts_patch : Patch rest
-    counts_patch =
-        record {
-          ended = lt-ltb 1 (length (lines rest)) (omega (arith, c.good.many, reached_count c.here));
-          form = rw (sym (reached_piece c.here)) (c.good.form p l);
-        }
-
     module _ (sep : Separation) (inks : Inks) (a : sep ≡ separation_in (line_at rest 0)) (b : inks ≡ inks_in (line_at rest 0)) where
       -- the counts that are answered make its line
       line_lem : (counts : List ℕ) → counts ≡ upto (count s sep inks) 8 → line_of letter_c counts ≡ written s text p
@@ -67,25 +45,24 @@ module _ {s : Screen} {text : List ℕ} {patches : ℕ} {out₀ out rest : List 
       line_lem counts e = rw (e, a, b, reached_piece c.here) refl
 
       -- there is room for it
-      pub counts_room : (counts : List ℕ) → counts ≡ upto (count s sep inks) 8 → length (line_of letter_c counts) ≤ length (take (length out - done) (drop done out))
-      counts_room counts e = rw (line_lem counts e) (simp (length-take, length-drop) (omega (
+      pub counts_room : (counts : List ℕ) → counts ≡ upto (count s sep inks) 8 → out.done + length (line_of letter_c counts) ≤ length out.text.now
+      counts_room counts e = rw (line_lem counts e) (omega (
         arith,
         c.room,
         joined_within patches (p + 1) (written s text) (omega arith),
         ap (λ (run : List ℕ). length run) (joined_next p (written s text)),
         length-append (joined p (written s text)) (written s text p),
-        counts_kept,
-        c.wrote.many,
-      )))
+        c.puts.done,
+        c.puts.room,
+      ))
 
-      pub counts_step : (counts : List ℕ) → counts ≡ upto (count s sep inks) 8 → {next last : List ℕ} {k : ℕ} → Parted newline rest next
-          → Wrote (line_of letter_c counts) (take (length out - done) (drop done out)) last k
-          → CountsAt s text patches out₀ (put_mid done (length out - done) out last) next (done + k) (p + 1)
-      counts_step counts e parted w =
+      pub counts_step : (counts : List ℕ) → counts ≡ upto (count s sep inks) 8 → {after : Output} {next : List ℕ} → Parted newline rest next
+          → Puts (line_of letter_c counts) out after → CountsAt s text patches start after next (p + 1)
+      counts_step counts e parted q =
           record {
             good = c.good;
             room = c.room;
             within = omega arith;
             here = reached_next c.here parted;
-            wrote = wrote_as (wrote_part c.wrote room_here (wrote_as w (line_lem counts e))) (sym (joined_next p (written s text)));
+            puts = puts_as (puts_then c.puts (puts_as q (line_lem counts e))) (sym (joined_next p (written s text)));
           }

@@ -140,14 +140,6 @@ module _ {text rest : List ℕ} {i : ℕ} (here : Reached newline text rest i) (
 
 -- ---- the walk over the lines
 
--- it begins at the second line, before which the first is good
-judged_start : (text rest : List ℕ) → line_refusal text 0 ≡ 0 → Parted newline text rest → JudgedTo text rest 1
-judged_start text rest e p =
-    record {
-      here = reached_next (reached_start newline text) p;
-      good = λ k l. good_next text 0 (λ m h. absurd (omega arith)) e k l;
-    }
-
 judged_next : {text rest next : List ℕ} {i : ℕ} → JudgedTo text rest i → line_refusal text i ≡ 0 → Parted newline rest next → JudgedTo text next (i + 1)
 judged_next {text} {rest} {next} {i} j e p = record { here = reached_next j.here p; good = good_next text i j.good e }
 
@@ -157,9 +149,6 @@ pub record PatchesAt (text rest : List ℕ) (line : ℕ) : Type 0 where
   pub some : 1 ≤ line
   pub few : line ≤ 257
   pub more : (line ≡ 1) ⊎ (0 < length rest)
-
-pub patches_start : (text rest : List ℕ) → line_refusal text 0 ≡ 0 → Parted newline text rest → PatchesAt text rest 1
-patches_start text rest e p = record { judged = judged_start text rest e p; some = omega arith; few = omega arith; more = inl refl }
 
 module _ {text rest : List ℕ} {line : ℕ} (p : PatchesAt text rest line) where
   pub patches_bad : line < 257 → (Patch rest → ⊥) → Judged text (line + 1) 10

@@ -11,25 +11,26 @@ ghost use Rattle.std.specs.Prelude.{◌≡◌, ◌++◌, ◌≤◌, length, take
 ghost use Rattle.counts_text.specs.Program.{counts_text};
 
 use crate::judging::{BadLine, judge};
-use crate::writing::{write_counts, write_error};
+use crate::writing::Output;
 use arith::Refusal;
 
 // Writes what the program answers to the input, and answers how many bytes that is.
-#[tactic(auto, using(crate::proofs::ProgramLaws::too_long, crate::proofs::OutputLaws::long_fits))]
 pub fn run(input: &[u8], out: &mut [u8; 16384]) -> usize
     ensures answer { result ≡ length (counts_text input.now) }
     ensures text { out.new ≡ counts_text input.now ++ drop result out.old }
     ensures fits { (result ≤ length out.new) × (result ≡ length (take result out.new)) }
 {
+    let mut output = Output { text: out, done: 0 };
     if 65536 < input.len() {
-        let too_long = BadLine {
+        output.put_error(BadLine {
             line: 0,
             refusal: Refusal::Form,
-        };
-        return write_error(too_long, out);
+        });
+        return output.done;
     }
     match judge(input) {
-        Ok(job) => write_counts(job, out),
-        Err(bad) => write_error(bad, out),
+        Ok(job) => output.put_counts(job),
+        Err(bad) => output.put_error(bad),
     }
+    output.done
 }

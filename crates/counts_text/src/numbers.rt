@@ -1,10 +1,8 @@
-// Numbers as text: told, read and written.
-ghost use Rattle.std.specs.Prelude.{◌≡◌, cond, Some, None, true, ◌≤◌, length};
-ghost use Rattle.std.specs.Prelude.{leb, ◌&&◌};
+// Numbers as text: told and read.
+ghost use Rattle.std.specs.Prelude.{◌≡◌, cond, Some, None, true, length, leb, ◌&&◌};
 ghost use Rattle.std.specs.List.{list_all};
 ghost use Rattle.std.specs.Char.{is_ascii_digit};
-ghost use Rattle.counts_text.specs.Text.{Wrote};
-ghost use Rattle.counts_text.specs.Numbers.{is_number, is_number_to, value_of, numeral};
+ghost use Rattle.counts_text.specs.Numbers.{is_number, is_number_to, value_of};
 
 // The number that a field is, where it is one and is at most so much.
 pub(crate) fn number_in(field: &[u8], most: u32) -> Option<u32>
@@ -41,18 +39,4 @@ fn value_of(field: &[u8]) -> u32
         value = 10 * value + u32::from(digit - b'0');
     }
     value
-}
-
-// Writes a number's numeral and answers how many digits it has.
-pub(crate) fn write_number(v: u32, out: &mut [u8]) -> usize
-    requires { length (numeral v) ≤ length out.old }
-    ensures { Wrote (numeral v) out.old out.new result }
-{
-    if v < 10 {
-        out[0] = b'0' + v as u8;
-        return 1;
-    }
-    let front = write_number(v / 10, out);
-    out[front] = b'0' + (v % 10) as u8;
-    front + 1
 }

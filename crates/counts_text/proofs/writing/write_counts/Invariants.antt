@@ -1,6 +1,0 @@
--- What the loop of `counts_text::writing::write_counts` keeps.
-use Rattle.counts_text.proofs.CountsLoop.{CountsAt}
-use Rattle.counts_text.proofs.writing.write_counts.Given as goal
-
-abbrev pub invariant-loop-p : goal.invariant-loop-p
-invariant-loop-p l = CountsAt l.job.screen l.job.lines.now l.job.patches l.initial.out l.out l.rest l.done l._p
