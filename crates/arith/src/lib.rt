@@ -1,6 +1,5 @@
-// What every crate above shares: whole-number arithmetic, and the number of the rules in force. Its
-// functions are these three; what the crates above take from here besides are the definitions of specs/ and
-// the laws of proofs/.
+// What every crate above shares: whole-number arithmetic, the refusals, and the number of the rules in force.
+// What the crates above take from here besides are the definitions of specs/ and the laws of proofs/.
 #![tactic(auto)]
 
 mod carrying;
@@ -11,7 +10,7 @@ ghost use Rattle.arith.specs.Gcd.{gcd_of};
 ghost use Rattle.arith.specs.Rules.{rules_in_force};
 
 pub use carrying::carry;
-pub use refusals::Refusal;
+pub use refusals::{Refusal, number_of};
 
 // The greatest common divisor of a and b by Euclid's rule: each call falls back on the remainder,
 // which is smaller than b.

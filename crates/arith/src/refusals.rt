@@ -1,6 +1,6 @@
 // Why a call is refused, and the number of each refusal (rules 11.5 to 11.19).
 ghost use Rattle.std.specs.Prelude.{◌≡◌};
-ghost use Rattle.arith.specs.Refusal.{number};
+ghost use Rattle.arith.specs.Refusal.{number, number_of};
 
 // What refuses a call.
 #[derive(Clone, Copy, Debug, PartialEq, Eq, PartialOrd, Ord, Hash)]
@@ -43,5 +43,15 @@ impl From<Refusal> for u32 {
 
     fn from(refusal: Refusal) -> u32 {
         refusal as u32
+    }
+}
+
+// The number of what refuses a call, or 0 where it is served.
+pub fn number_of<T: Copy>(answer: Result<T, Refusal>) -> u32
+    ensures { result ≡ number_of answer }
+{
+    match answer {
+        Ok(_) => 0,
+        Err(refusal) => u32::from(refusal),
     }
 }

@@ -3,16 +3,19 @@
 use Prim.Native.Nat.{ℕ, zero, suc, ◌+◌, ◌-◌, ◌*◌, ◌/◌, ◌≤◌, ◌<◌}
 use mathlib.Core.Path.{◌≡◌, refl, sym, ap, ap₂, ◌∙◌}
 use native.Mathlib.Omega.{arith}
-use mathlib.Core.Bool.{cond}
-use mathlib.Core.List.{List, [], ◌∷◌, ◌++◌}
+use mathlib.Core.Bool.{cond, true}
+use mathlib.Core.List.{List, ◌++◌}
 use lib.ListN.{length, get_or, drop, get_or-append}
 use lib.Dec.{ltb}
 use borrow.Author.Tests.{lt-ltb, le-ltb}
 use Rattle.arith.specs.Sum.{sum_below}
 use Rattle.arith.specs.Run.{upto}
 use Rattle.arith.specs.Rounding.{before}
-use Rattle.arith.specs.Refusal.{answered}
-use Rattle.arith.proofs.RefusalLaws.{answered_none, answered_whole, written_none, written_whole}
+use Rattle.std.specs.Prelude.{Result, Ok, Err}
+use Rattle.std.specs.Result.{is_err}
+use Rattle.arith.specs.Refusal.{number, number_of}
+use Rattle.arith.specs.declared.refusals.Refusal.{Refusal}
+use Rattle.arith.proofs.RefusalLaws.{number_above, answered_whole, refused_answered, refused_written, written_whole}
 use Rattle.arith.proofs.RunLaws.{upto_length, upto_at, upto_same, upto_over}
 use Rattle.arith.proofs.SumLaws.{sum_same, sum_fewer}
 use Rattle.arith.proofs.StepLaws.{rises_to, before_most}
@@ -24,8 +27,7 @@ use Rattle.separation.specs.declared.Separation.{Separation}
 use Rattle.separation.specs.declared.Separation.TheVariants.{Demichel, Kueppers}
 use Rattle.separation.specs.declared.Inks.{Inks}
 use Rattle.separation.specs.Weights.{weight, weights_of, scale_of}
-use Rattle.quantiser.specs.declared.answer.Counts.{Counts}
-use Rattle.quantiser.specs.Running.{weight_up_to, level, running, count, counts_of}
+use Rattle.quantiser.specs.Running.{weight_up_to, level, running, count}
 use Rattle.quantiser.specs.Leaves.{levels_of, threshold_of, thresholds_in, lone_threshold}
 use Rattle.quantiser.proofs.RunningLaws.{running_rises}
 
@@ -71,30 +73,42 @@ module _ (s : Screen) (sep : Separation) (inks : Inks) where
 
 -- ---- what is answered and written, refused or not
 
-module _ (s : Screen) (sep : Separation) (inks : Inks) where
-  pub counts_none : (refusal_of s ≡ 0 → ⊥) → ◌≡◌ {A = Counts} (record { refusal = refusal_of s; of = 0 ∷ 0 ∷ 0 ∷ 0 ∷ 0 ∷ 0 ∷ 0 ∷ 0 ∷ [] }) (counts_of s sep inks)
-  unfolding counts_of upto
-  counts_none h =
-      let none : (j : ℕ) → answered (refusal_of s) (count s sep inks j) ≡ 0 = λ j. answered_none (refusal_of s) (count s sep inks j) h in
-      rw (none 0, none 1, none 2, none 3, none 4, none 5, none 6, none 7)
-
-  pub counts_whole : refusal_of s ≡ 0 → ◌≡◌ {A = Counts} (record { refusal = 0; of = upto (count s sep inks) 8 }) (counts_of s sep inks)
-  unfolding counts_of
-  counts_whole e = rw (upto_same (λ j. answered (refusal_of s) (count s sep inks j)) (count s sep inks) 8 (λ j l. answered_whole (refusal_of s) (count s sep inks j) e), e)
-
 module _ (s : Screen) (table : List ℕ) where
-  pub thresholds_none : (buffer_refusal s (length table) ≡ 0 → ⊥) → table ≡ thresholds_in s table
-  unfolding thresholds_in
-  thresholds_none h = sym (written_none (buffer_refusal s (length table)) (upto (threshold_of s) s.n) table h)
+  -- the refusal of a table, by the tests that it is put to
+  pub table_error : (e : Refusal) → number e ≡ refusal_of s → number e ≡ buffer_refusal s (length table)
+  table_error e same = same ∙ (buffer_tests s (length table)).0 (λ z. omega (arith, number_above e, same, z))
 
-  pub thresholds_whole : buffer_refusal s (length table) ≡ 0 → upto (threshold_of s) s.n ++ drop s.n table ≡ thresholds_in s table
+  pub table_short : refusal_of s ≡ 0 → length table < s.n → 8 ≡ buffer_refusal s (length table)
+  table_short e short = (buffer_tests s (length table)).1 e short
+
+  pub table_fits : refusal_of s ≡ 0 → s.n ≤ length table → 0 ≡ buffer_refusal s (length table)
+  table_fits e room = (buffer_tests s (length table)).2 e room
+
+  -- and what is left in it
+  thresholds_none : 0 < buffer_refusal s (length table) → table ≡ thresholds_in s table
   unfolding thresholds_in
-  thresholds_whole e = sym (written_whole (buffer_refusal s (length table)) (upto (threshold_of s) s.n) table s.n e (upto_length (threshold_of s) s.n))
+  thresholds_none above = refused_written (buffer_refusal s (length table)) (upto (threshold_of s) s.n) table above
+
+  pub thresholds_refused : 0 < refusal_of s → table ≡ thresholds_in s table
+  thresholds_refused above = thresholds_none (omega (arith, above, (buffer_tests s (length table)).0 (λ z. omega (arith, above, z))))
+
+  pub thresholds_short : refusal_of s ≡ 0 → length table < s.n → table ≡ thresholds_in s table
+  thresholds_short e short = thresholds_none (omega (arith, table_short e short))
+
+  pub thresholds_served : refusal_of s ≡ 0 → s.n ≤ length table → upto (threshold_of s) s.n ++ drop s.n table ≡ thresholds_in s table
+  unfolding thresholds_in
+  thresholds_served e room =
+      sym (written_whole (buffer_refusal s (length table)) (upto (threshold_of s) s.n) table s.n (sym (table_fits e room)) (upto_length (threshold_of s) s.n))
+
+-- a call that answers an error has a number above 0
+pub err_above : (r : Result (Unit {0}) Refusal) → is_err r ≡ true → 0 < number_of r
+err_above (Ok x) h = cc
+err_above (Err e) h = number_above e
 
 module _ (s : Screen) (p : ℕ) where
-  pub lone_none : (refusal_of s ≡ 0 → ⊥) → 0 ≡ lone_threshold s p
+  pub lone_refused : 0 < refusal_of s → 0 ≡ lone_threshold s p
   unfolding lone_threshold
-  lone_none h = sym (answered_none (refusal_of s) (cond (ltb p s.n) (threshold_of s p) 0) h)
+  lone_refused above = sym (refused_answered (refusal_of s) (cond (ltb p s.n) (threshold_of s p) 0) above)
 
   pub lone_beyond : refusal_of s ≡ 0 → s.n ≤ p → 0 ≡ lone_threshold s p
   unfolding lone_threshold
@@ -107,8 +121,7 @@ module _ (s : Screen) (p : ℕ) where
 pub thresholds_listed : (s : Screen) → Admitted s → (table : List ℕ) → s.n ≤ length table
     → (length (thresholds_in s table) ≡ length table) × ((p : ℕ) → p < s.n → get_or (thresholds_in s table) p 0 ≡ threshold_of s p)
 thresholds_listed s ok table room =
-    let whole = thresholds_whole s table (sym ((buffer_tests s (length table)).2 ok room)) in
-    rw (← whole) (
+    rw (← thresholds_served s table ok room) (
       upto_over (threshold_of s) table s.n room,
       λ p l. get_or-append (upto (threshold_of s) s.n) (drop s.n table) 0 p (rw (upto_length (threshold_of s) s.n) l) ∙ upto_at (threshold_of s) s.n p l,
     )

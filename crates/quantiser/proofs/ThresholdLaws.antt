@@ -1,14 +1,17 @@
 -- Thresholds: q is below (C + k) / K exactly where (q + 1) × K − k is at most C. So a cell's colorant is the first whose running
 -- sum reaches its threshold, and over the phases the thresholds are 1 to N, each once.
 -- Assumes nothing.
-use Prim.Native.Nat.{ℕ, suc, ◌+◌, ◌-◌, ◌*◌, ◌/◌, ◌%◌, ◌≤◌, ◌<◌}
-use mathlib.Core.Path.{◌≡◌, sym, ap, ap₂, ◌∙◌}
-use mathlib.Core.Bool.{true, not}
+use Prim.Native.Nat.{ℕ, zero, suc, ◌+◌, ◌-◌, ◌*◌, ◌/◌, ◌%◌, ◌≤◌, ◌<◌}
+use mathlib.Core.Path.{◌≡◌, refl, sym, ap, ap₂, ◌∙◌}
+use mathlib.Core.Bool.{Bool, true, false, not}
 use native.Mathlib.Nat.{le-div_iff_mul-le, le_trans}
 use native.Mathlib.Decide.{dec_lt, dec_le, ℕ_discrete}
+use native.Mathlib.Numerals.{add-one}
 use native.Mathlib.Omega.{arith}
+use Rattle.std.specs.Prelude.{count_by, nat_lt}
+use Rattle.std.proofs.lemmas.List.Sums.{count_by_more_yes, count_by_more_no}
 use mathlib.Core.List.{List}
-use lib.ListN.{get_or}
+use lib.ListN.{length, get_or, take}
 use lib.Dec.{eqb, ltb, leb}
 use lib.Arith.{digits_div, digits_mod}
 use borrow.Author.Tests.{lt-ltb, le-ltb, le-leb, lt-leb, leb-true, eq-eqb, ne_eqb}
@@ -71,6 +74,22 @@ same_place K k q k' q' l l' e =
 pub rank_below : (levels : List ℕ) (bar : ℕ) → rank levels bar < 8
 unfolding rank
 rank_below levels bar = omega (arith, sum_bounded 7 (λ j. indicator (ltb (get_or levels j 0) bar)) (λ j l. indicator_le (ltb (get_or levels j 0) bar)))
+
+-- a sum of tests of the first elements counts those that pass
+counted_first : (passes : ℕ → Bool) (list : List ℕ) (n : ℕ) → n ≤ length list → count_by passes (take n list) ≡ sum_below n (λ j. indicator (passes (get_or list j 0)))
+unfolding sum_below
+counted_first passes list zero h = refl
+counted_first passes list (suc n) h = go (passes (get_or list n 0)) refl (counted_first passes list n (omega arith))
+  where
+    go : (t : Bool) → passes (get_or list n 0) ≡ t → count_by passes (take n list) ≡ sum_below n (λ j. indicator (passes (get_or list j 0)))
+        → count_by passes (take (suc n) list) ≡ sum_below n (λ j. indicator (passes (get_or list j 0))) + indicator (passes (get_or list n 0))
+    go true e before = rw (e, ← add-one n, count_by_more_yes passes list n 0 h e, before)
+    go false e before = rw (e, ← add-one n, count_by_more_no passes list n 0 h e, before) (omega arith)
+
+-- a rank is how many of the first seven levels are below a number
+pub rank_counted : (levels : List ℕ) (bar : ℕ) → 7 ≤ length levels → count_by (λ level. nat_lt level bar) (take 7 levels) ≡ rank levels bar
+unfolding rank
+rank_counted levels bar h = counted_first (λ level. nat_lt level bar) levels 7 h
 
 -- no level is below 0
 pub rank_none : (levels : List ℕ) → rank levels 0 ≡ 0

@@ -4,8 +4,7 @@
 use Prim.Native.Nat.{ℕ, suc, ◌+◌, ◌-◌, ◌*◌, ◌/◌, ◌≤◌, ◌<◌}
 use mathlib.Core.Path.{◌≡◌, refl, sym, ap, ap₂, ◌∙◌}
 use mathlib.Core.List.{List, ◌++◌}
-use mathlib.Core.Logic.{◌⊎◌, inl, inr}
-use native.Mathlib.Nat.{div-mul-le_self, eq-or-lt_of_le, not-le_of_lt, add-zero, zero-add}
+use native.Mathlib.Nat.{div-mul-le_self, not-le_of_lt}
 use native.Mathlib.Numerals.{add-one}
 use native.Mathlib.Omega.{arith}
 use lib.ListN.{length, take, drop}
@@ -16,7 +15,6 @@ use Rattle.arith.proofs.RunLaws.{upto_same, part_length, Filling, filling_start,
 use Rattle.arith.proofs.StepLaws.{rises_to}
 use Rattle.screen.specs.declared.Screen.{Screen}
 use Rattle.screen.specs.Screens.{Admitted}
-use Rattle.screen.proofs.Published.{admitted_words}
 use Rattle.quantiser.specs.Subscreens.{subscreen_size, subscreen_start}
 use Rattle.quantiser.specs.Leaves.{threshold_at, threshold_of}
 use Rattle.quantiser.proofs.SubscreenLaws.{start_step, start_rises, sizes_add_up, place_of}
@@ -74,40 +72,39 @@ module _ {s : Screen} {table₀ table : List ℕ} {k start : ℕ} (ok : Admitted
 
 -- ---- passing subscreens
 
--- the subscreens before k have so many phases, at most p; k ends at the next
-pub record PassedAt (s : Screen) (p k passed next : ℕ) : Type 0 where
-  pub low : k < s.k
+-- the subscreens before k have so many phases, at most p
+pub record PassedAt (s : Screen) (p k passed : ℕ) : Type 0 where
+  pub most : k ≤ s.k
   pub begins : passed ≡ subscreen_start s k
-  pub ends : next ≡ subscreen_start s (suc k)
   pub reached : passed ≤ p
 
-module _ {s : Screen} (ok : Admitted s) {p : ℕ} where
-  pub passed_start : PassedAt s p 0 0 (s.n / s.k)
-  unfolding subscreen_start subscreen_size sum_below
-  passed_start = record { low = ((admitted_words s).0 ok).subscreens_above; begins = refl; ends = rw (add-zero, zero-add); reached = omega arith }
+module _ {s : Screen} {p : ℕ} where
+  pub passed_start : PassedAt s p 0 0
+  unfolding subscreen_start sum_below
+  passed_start = record { most = omega arith; begins = refl; reached = omega arith }
 
-  module _ {k passed next : ℕ} (l : p < s.n) (r : PassedAt s p k passed next) where
-    -- the subscreen ends within the N phases, and before the phase only if another follows
-    pub ends_within : next ≤ s.n
-    ends_within = omega (arith, r.ends, rises_to (subscreen_start s) (start_rises s ok) (suc k) s.k r.low, sizes_add_up s ok)
-
-    pub passed_next : next ≤ p → PassedAt s p (k + 1) next (next + (s.n + (k + 1)) / s.k)
+module _ {s : Screen} {p k passed : ℕ} (ok : Admitted s) (r : PassedAt s p k passed) where
+  module _ (l : k < s.k) where
+    -- where subscreen k ends, within the N phases
+    passed_ends : passed + (s.n + k) / s.k ≡ subscreen_start s (suc k)
     unfolding subscreen_size
-    passed_next h =
-        record {
-          low = go (eq-or-lt_of_le r.low);
-          begins = rw add-one r.ends;
-          ends = rw (add-one, start_step s ok (suc k)) (ap (λ (z : ℕ). z + (s.n + suc k) / s.k) r.ends);
-          reached = h;
-        }
-      where
-        go : (suc k ≡ s.k) ⊎ (suc k < s.k) → k + 1 < s.k
-        go (inl e) = absurd (not-le_of_lt l (omega (arith, r.ends, ap (subscreen_start s) e, sizes_add_up s ok)))
-        go (inr h) = omega arith
+    passed_ends = sym (start_step s ok k ∙ ap (λ (z : ℕ). z + (s.n + k) / s.k) (sym r.begins))
 
-    pub passed_end : p < next → (p - passed + 1) * s.k - k ≡ threshold_of s p
+    pub ends_within : passed + (s.n + k) / s.k ≤ s.n
+    ends_within = omega (arith, passed_ends, rises_to (subscreen_start s) (start_rises s ok) (suc k) s.k l, sizes_add_up s ok)
+
+    pub passed_next : passed + (s.n + k) / s.k ≤ p → PassedAt s p (k + 1) (passed + (s.n + k) / s.k)
+    passed_next h = record { most = omega arith; begins = rw add-one passed_ends; reached = h }
+
+    pub passed_end : p < passed + (s.n + k) / s.k → (p - passed + 1) * s.k - k ≡ threshold_of s p
     unfolding threshold_of threshold_at
     passed_end h =
-        let place = place_of s ok k (p - passed) r.low (omega (arith, r.begins, r.ends, r.reached, start_step s ok k)) in
+        let place = place_of s ok k (p - passed) l (omega (arith, r.begins, r.reached, passed_ends, start_step s ok k)) in
         let here : subscreen_start s k + (p - passed) ≡ p = omega (arith, r.begins, r.reached) in
         sym (ap₂ (λ (i d : ℕ). threshold_at s i d) place.0 place.1) ∙ ap (threshold_of s) here
+
+  -- a phase that the screen has is not beyond all subscreens
+  pub passed_all : p < s.n → s.k ≤ k → ⊥
+  passed_all l h =
+      let last : k ≡ s.k = omega (arith, r.most) in
+      not-le_of_lt l (omega (arith, r.reached, r.begins ∙ ap (subscreen_start s) last ∙ sizes_add_up s ok))

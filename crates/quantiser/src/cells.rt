@@ -1,12 +1,14 @@
 // What a cell's colorant needs: levels, once a colour, and a threshold. A renderer has the thresholds of all
 // phases, once a call, and so divides for no cell; a lone phase has its own.
-ghost use Rattle.std.specs.Prelude.{◌≡◌, ◌++◌, ℕ, suc, ◌+◌, ◌-◌, ◌*◌, ◌≤◌, ◌<◌, length, get_or, drop};
+ghost use Rattle.std.specs.Prelude.{◌≡◌, ◌++◌, ℕ, suc, ◌+◌, ◌-◌, ◌*◌, ◌≤◌, ◌<◌, length, get_or, drop, count_by, nat_lt};
+ghost use Rattle.arith.specs.Refusal.{number_of};
 ghost use Rattle.arith.specs.Sum.{sum_below};
 ghost use Rattle.arith.specs.Run.{upto};
 ghost use Rattle.screen.specs.Screens.{Admitted};
 ghost use Rattle.screen.specs.Brick.{buffer_refusal};
 ghost use Rattle.quantiser.specs.Leaves.{levels_of, threshold_of, thresholds_in, lone_threshold, rank};
 
+use arith::Refusal;
 use screen::Screen;
 use separation::{Inks, Separation};
 
@@ -24,38 +26,37 @@ fn raised(weights: [u64; 8], factor: u64, scale: u64) -> [u64; 8]
     requires { ((j : ℕ) → j ≤ 8 → sum_below j (λ i. get_or weights i 0) ≤ scale) × (factor ≤ 8589934590) × (scale ≤ 16581375) }
     ensures { result ≡ upto (λ j. factor * sum_below (suc j) (λ i. get_or weights i 0) + scale) 8 }
 {
-    let mut of = [0u64; 8];
+    let mut of = weights;
     let mut sum = 0;
-    for j in 0..8 {
-        sum += weights[j];
-        of[j] = factor * sum + scale;
+    for level in of.iter_mut() {
+        sum += *level;
+        *level = factor * sum + scale;
     }
     of
 }
 
-// Writes the thresholds of a screen's phases to the first n places of a lent table and answers 0, or
-// answers what refuses it and writes nothing. A table is refused as a brick buffer is.
-pub fn thresholds(s: Screen, table: &mut [u16]) -> u32
-    ensures answer { result ≡ buffer_refusal s (length table.old) }
+// Writes the thresholds of a screen's phases to the first n places of a lent table; refused, writes nothing.
+// A table is refused as a brick buffer is.
+#[tactic(auto, using(arith::proofs::RefusalLaws::number_above, crate::proofs::LevelLaws::table_error, crate::proofs::LevelLaws::table_short, crate::proofs::LevelLaws::table_fits, crate::proofs::LevelLaws::thresholds_refused, crate::proofs::LevelLaws::thresholds_short, crate::proofs::LevelLaws::thresholds_served))]
+pub fn thresholds(s: Screen, table: &mut [u16]) -> Result<(), Refusal>
+    ensures refused { number_of result ≡ buffer_refusal s (length table.old) }
     ensures places { table.new ≡ thresholds_in s table.old }
 {
-    let refused = screen::refusal(s);
-    if refused != 0 {
-        return refused;
-    }
+    screen::check(s)?;
     if table.len() < s.n as usize {
-        return 8;
+        return Err(Refusal::Brick);
     }
     rank_phases(s, table);
-    0
+    Ok(())
 }
 
 // The threshold of a lone phase; 0, which is above no level, where the screen is not admitted or has no such
 // phase.
+#[tactic(auto, using(crate::proofs::LevelLaws::err_above, crate::proofs::LevelLaws::lone_refused, crate::proofs::LevelLaws::lone_beyond, crate::proofs::LevelLaws::lone_whole))]
 pub fn threshold(s: Screen, phase: u32) -> u32
     ensures { result ≡ lone_threshold s phase }
 {
-    if screen::refusal(s) != 0 {
+    if screen::check(s).is_err() {
         return 0;
     }
     if s.n <= phase {
@@ -65,20 +66,20 @@ pub fn threshold(s: Screen, phase: u32) -> u32
 }
 
 // The threshold of a phase. Subscreens are passed until one ends after it; `passed` is how many phases they
-// have.
+// have. The phase is in one of them, as they have the n phases together.
 fn threshold_of(s: Screen, phase: u32) -> u32
     requires { Admitted s × (phase < s.n) }
     ensures { result ≡ threshold_of s phase }
 {
-    let mut subscreen = 0;
     let mut passed = 0;
-    let mut next = s.n / s.k;
-    while next <= phase {
+    for subscreen in 0..s.k {
+        let next = passed + (s.n + subscreen) / s.k;
+        if phase < next {
+            return (phase - passed + 1) * s.k - subscreen;
+        }
         passed = next;
-        subscreen += 1;
-        next = passed + (s.n + subscreen) / s.k;
     }
-    (phase - passed + 1) * s.k - subscreen
+    unreachable!()
 }
 
 // Writes the thresholds of the phases, one subscreen after the other.
@@ -101,8 +102,8 @@ fn rank_subscreen(k: u32, subscreen: u32, out: &mut [u16])
     ensures { out.new ≡ upto (λ q. (q + 1) * k - subscreen) (length out.old) }
 {
     let mut threshold = k - subscreen;
-    for q in 0..out.len() {
-        out[q] = threshold as u16;
+    for place in out.iter_mut() {
+        *place = threshold as u16;
         threshold += k;
     }
 }
@@ -111,11 +112,12 @@ fn rank_subscreen(k: u32, subscreen: u32, out: &mut [u16])
 pub fn colorant_of(levels: [u64; 8], bar: u64) -> u8
     ensures { result ≡ rank levels bar }
 {
-    let mut colorant = 0;
-    for j in 0..7 {
-        if levels[j] < bar {
-            colorant += 1;
-        }
-    }
-    colorant
+    above(&levels[..7], bar) as u8
+}
+
+// How many levels a number is above.
+fn above(levels: &[u64], bar: u64) -> usize
+    ensures { result ≡ count_by (λ level. nat_lt level bar) levels.now }
+{
+    levels.iter().filter(|&&level| level < bar).count()
 }

@@ -1,28 +1,24 @@
 // The quantised counts of a colour.
-ghost use Rattle.std.specs.Prelude.{◌≡◌, ℕ, ◌-◌, ◌*◌, ◌/◌, ◌≤◌, ◌<◌, get_or};
+ghost use Rattle.std.specs.Prelude.{◌≡◌, ℕ, ◌-◌, ◌*◌, ◌/◌, ◌≤◌, ◌<◌, get_or, IfOk};
+ghost use Rattle.arith.specs.Refusal.{number_of};
 ghost use Rattle.arith.specs.Run.{upto};
 ghost use Rattle.arith.specs.Rounding.{before};
 ghost use Rattle.separation.specs.Weights.{scale_of};
 ghost use Rattle.quantiser.specs.Running.{count, counts_of};
 
-use crate::answer::Counts;
 use crate::cells::levels;
+use arith::Refusal;
 use screen::Screen;
 use separation::{Inks, Separation};
 
 // The quantised counts of the eight colorants for one ink triple, or what refuses the screen.
-pub fn counts(s: Screen, sep: Separation, inks: Inks) -> Counts
-    ensures { result ≡ counts_of s sep inks }
+#[tactic(auto, unfolding(crate::specs::Running::counts_of))]
+pub fn counts(s: Screen, sep: Separation, inks: Inks) -> Result<[u32; 8], Refusal>
+    ensures refused { number_of result ≡ (counts_of s sep inks).refusal }
+    ensures counts { IfOk result (λ of. of ≡ upto (count s sep inks) 8) }
 {
-    let refused = screen::refusal(s);
-    if refused != 0 {
-        return Counts {
-            refusal: refused,
-            of: [0u32; 8],
-        };
-    }
-    let of = counted(s, sep, inks);
-    Counts { refusal: 0, of: of }
+    screen::check(s)?;
+    Ok(counted(s, sep, inks))
 }
 
 // The counts alone, for a caller that has tested the screen.

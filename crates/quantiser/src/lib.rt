@@ -1,7 +1,6 @@
 // Quantised counts, and the colorant of a phase (rules 5.1 to 6.5).
 #![tactic(auto)]
 
-pub mod answer;
 mod cells;
 mod counting;
 

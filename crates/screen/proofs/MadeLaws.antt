@@ -11,7 +11,7 @@ use Rattle.arith.specs.declared.refusals.Refusal.{Refusal}
 use Rattle.arith.proofs.RefusalLaws.{refused_first, refused_later, error_first, or_none}
 use Rattle.screen.specs.declared.Screen.{Screen}
 use Rattle.screen.specs.Screens.{screen_of, numbers_refusal, refusal_of, Admitted, Stored}
-use Rattle.screen.specs.Made.{Made, handed_back, no_screen, made_of, replaced_by, Replacement, offset, subscreens, cells, replaced, after_all}
+use Rattle.screen.specs.Made.{no_screen, made_of, replaced_by, Replacement, offset, subscreens, cells, replaced, after_all}
 use Rattle.screen.proofs.Refusals.{numbers_most, stored_suffice, stored_admitted, refused_numbers, stored_kept}
 
 -- ---- making

@@ -12,7 +12,7 @@ use borrow.Author.Tests.{leb-true, ltb-true, eqb-true, eqb-false, le-leb, lt-leb
 use Rattle.arith.specs.Refusal.{unless, number}
 use Rattle.arith.specs.declared.refusals.Refusal.{Refusal}
 use Rattle.arith.specs.Sheet.{on_sheet}
-use Rattle.arith.proofs.RefusalLaws.{both_pass, unless_none, refused_first, refused_later, error_first, refused_written, answered_none, answered_whole, written_none, written_whole, or_none}
+use Rattle.arith.proofs.RefusalLaws.{both_pass, unless_none, refused_first, refused_later, error_first, refused_written, answered_none, answered_whole, written_whole, or_none}
 use Rattle.arith.proofs.RunLaws.{upto_length}
 use Rattle.arith.proofs.SheetLaws.{off_right, off_below, on_sheet_lem, sheet_kept}
 use Rattle.screen.specs.declared.Screen.{Screen}

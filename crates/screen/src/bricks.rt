@@ -10,7 +10,7 @@ use crate::{Screen, check};
 use arith::{Refusal, carry};
 
 // A brick's columns L, rows H and shift S.
-#[derive(Clone, Copy, Debug, PartialEq, Eq)]
+#[derive(Clone, Copy, Debug, PartialEq, Eq, Hash)]
 pub struct Brick {
     pub columns: u32,
     pub rows: u32,
@@ -54,8 +54,7 @@ fn fill(brick: &mut [u16], a: u32, b: u32, n: u32, g: u32, columns: u32)
     let down = b % n;
     let mut phase = carry(0, n - g, n);
     let mut column = 0;
-    let mut place = 0;
-    while place < n {
+    for place in 0..n {
         brick[place as usize] = phase as u16;
         phase = carry(phase, right, n);
         column += 1;
@@ -63,6 +62,5 @@ fn fill(brick: &mut [u16], a: u32, b: u32, n: u32, g: u32, columns: u32)
             phase = carry(phase, down, n);
             column = 0;
         }
-        place += 1;
     }
 }

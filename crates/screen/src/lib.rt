@@ -22,7 +22,7 @@ pub use places::phase_at;
 
 // A screen: the slope a/b, the cell count n, the number of subscreens k and the offset g; and, stored with
 // them, the columns, the rows and the shift of its brick.
-#[derive(Clone, Copy)]
+#[derive(Clone, Copy, Debug, PartialEq, Eq, Hash)]
 pub struct Screen {
     pub a: u32,
     pub b: u32,
@@ -74,15 +74,16 @@ fn slope_admitted(a: u32, b: u32) -> bool
     1 <= a && a < b && b <= 64 && arith::coprime(b, a)
 }
 
+#[tactic(auto, unfolding(crate::specs::Screens::cells_admitted))]
 fn cells_admitted(n: u32) -> bool
     ensures { result ≡ cells_admitted n }
 {
-    1 <= n && n <= 4096
+    (1..=4096).contains(&n)
 }
 
 #[tactic(auto, unfolding(crate::specs::Screens::subscreens_admitted))]
 fn subscreens_admitted(n: u32, k: u32) -> bool
     ensures { result ≡ subscreens_admitted n k }
 {
-    1 <= k && k <= 16 && k <= n
+    (1..=16).contains(&k) && k <= n
 }

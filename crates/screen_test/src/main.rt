@@ -3,7 +3,26 @@
 // holds what this must print.
 #![tactic(auto)]
 
-use screen::{Made, Screen};
+use arith::{Refusal, number_of};
+use screen::{Brick, Screen};
+
+// What is shown beside a refusal.
+const NO_SCREEN: Screen = Screen {
+    a: 0,
+    b: 0,
+    n: 0,
+    k: 0,
+    g: 0,
+    columns: 0,
+    rows: 0,
+    shift: 0,
+};
+
+const NO_BRICK: Brick = Brick {
+    columns: 0,
+    rows: 0,
+    shift: 0,
+};
 
 fn main() {
     io::write_all(
@@ -324,11 +343,10 @@ fn unmoved() {
 
 // A screen that stores the numbers of its brick or, where 1 to 4 refuse it, zeros.
 fn screen_of(a: u32, b: u32, n: u32, k: u32, g: u32) -> Screen {
-    let made = screen::make(a, b, n, k, g);
-    if made.refusal != 0 {
-        return record_of(a, b, n, k, g, 0, 0, 0);
+    match screen::make(a, b, n, k, g) {
+        Ok(s) => s,
+        Err(_) => record_of(a, b, n, k, g, 0, 0, 0),
     }
-    made.screen
 }
 
 fn record_of(
@@ -342,34 +360,34 @@ fn record_of(
     shift: u32,
 ) -> Screen {
     Screen {
-        a: a,
-        b: b,
-        n: n,
-        k: k,
-        g: g,
-        columns: columns,
-        rows: rows,
-        shift: shift,
+        a,
+        b,
+        n,
+        k,
+        g,
+        columns,
+        rows,
+        shift,
     }
 }
 
-// Replaces the offset, and answers the screen handed back.
+// Replaces the offset, and answers the new screen or, refused, the one that it got.
 fn with_offset(s: Screen, g: u32) -> Screen {
-    show_replaced(b"g ", g, screen::replace_offset(s, g))
+    show_replaced(s, b"g ", g, screen::replace_offset(s, g))
 }
 
 fn with_subscreens(s: Screen, k: u32) -> Screen {
-    show_replaced(b"k ", k, screen::replace_subscreens(s, k))
+    show_replaced(s, b"k ", k, screen::replace_subscreens(s, k))
 }
 
 fn with_cells(s: Screen, n: u32) -> Screen {
-    show_replaced(b"n ", n, screen::replace_cells(s, n))
+    show_replaced(s, b"n ", n, screen::replace_cells(s, n))
 }
 
-fn show_replaced(name: &[u8], by: u32, made: Made) -> Screen {
+fn show_replaced(s: Screen, name: &[u8], by: u32, answer: Result<Screen, Refusal>) -> Screen {
     io::write_all(1, name);
     number(by);
-    show_answer(made)
+    show_answer(s, answer)
 }
 
 // The screen as it is seen from a corner.
@@ -377,20 +395,21 @@ fn seen_from(s: Screen, x: u64, y: u64) -> Screen {
     io::print_decimal(1, x);
     io::write_all(1, b" ");
     io::print_decimal(1, y);
-    show_answer(screen::moved(s, x, y))
+    show_answer(s, screen::moved(s, x, y))
 }
 
-// Ends a line with what was made, and answers its screen.
-fn show_answer(made: Made) -> Screen {
+// Ends a line with what was made of a screen, and answers the screen to go on with.
+fn show_answer(s: Screen, answer: Result<Screen, Refusal>) -> Screen {
     io::write_all(1, b": ");
-    show_made(made);
+    show_made(s, answer);
     io::write_all(1, b"\n");
-    made.screen
+    answer.unwrap_or(s)
 }
 
-fn show_made(made: Made) {
-    let s = made.screen;
-    number(made.refusal);
+// The refusal, and the new screen or another.
+fn show_made(other: Screen, answer: Result<Screen, Refusal>) {
+    let s = answer.unwrap_or(other);
+    number(number_of(answer));
     io::write_all(1, b" ");
     show_numbers(s);
     spaced(s.columns);
@@ -419,10 +438,11 @@ fn show_70(columns: u32, rows: u32, shift: u32) {
 fn show(s: Screen) {
     show_numbers(s);
     io::write_all(1, b": ");
-    number(screen::refusal(s));
-    let brick = screen::brick_of(s);
+    number(number_of(screen::check(s)));
+    let answer = screen::brick_of(s);
+    let brick = answer.unwrap_or(NO_BRICK);
     io::write_all(1, b"; ");
-    number(brick.refusal);
+    number(number_of(answer));
     spaced(brick.columns);
     spaced(brick.rows);
     spaced(brick.shift);
@@ -431,7 +451,7 @@ fn show(s: Screen) {
     io::write_all(1, b", ");
     show_phase(s, 3, 2);
     io::write_all(1, b"; ");
-    show_made(screen::make(s.a, s.b, s.n, s.k, s.g));
+    show_made(NO_SCREEN, screen::make(s.a, s.b, s.n, s.k, s.g));
     io::write_all(1, b"\n");
 }
 
@@ -446,27 +466,27 @@ fn show_place(s: Screen, x: u32, y: u32) {
 }
 
 fn show_phase(s: Screen, x: u32, y: u32) {
-    let place = screen::phase_at(s, x, y);
-    number(place.refusal);
-    spaced(place.phase);
+    let phase = screen::phase_at(s, x, y);
+    number(number_of(phase));
+    spaced(phase.unwrap_or(0));
 }
 
 // Lends the first places of a buffer of 72, and shows the whole buffer, what was not lent included.
 fn show_filled(s: Screen, places: usize) {
     let mut buffer = [65535u16; 72];
-    let refusal = fill_first(s, &mut buffer, places);
+    let answer = fill_first(s, &mut buffer, places);
     show_numbers(s);
     io::write_all(1, b", ");
     io::print_decimal(1, places as u64);
     io::write_all(1, b": ");
-    number(refusal);
+    number(number_of(answer));
     io::write_all(1, b";");
     show_all(&buffer);
     io::write_all(1, b"\n");
 }
 
 // Fills the brick of s in the first places of the buffer, or in all of it where it has no more.
-fn fill_first(s: Screen, buffer: &mut [u16], places: usize) -> u32 {
+fn fill_first(s: Screen, buffer: &mut [u16], places: usize) -> Result<(), Refusal> {
     if buffer.len() <= places {
         screen::fill_brick(s, buffer)
     } else {
@@ -474,9 +494,9 @@ fn fill_first(s: Screen, buffer: &mut [u16], places: usize) -> u32 {
     }
 }
 
-fn show_all(buffer: &[u16; 72]) {
-    for i in 0..72 {
-        spaced(wide(buffer[i]));
+fn show_all(buffer: &[u16]) {
+    for phase in buffer {
+        spaced(u32::from(*phase));
     }
 }
 
@@ -488,15 +508,11 @@ fn show_numbers(s: Screen) {
     spaced(s.g);
 }
 
-fn wide(n: u16) -> u32 {
-    n as u32
-}
-
 fn spaced(n: u32) {
     io::write_all(1, b" ");
     number(n);
 }
 
 fn number(n: u32) {
-    io::print_decimal(1, n as u64);
+    io::print_decimal(1, u64::from(n));
 }

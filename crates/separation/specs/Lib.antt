@@ -1,3 +1,4 @@
+pub mod Numbers
 pub mod Weights
 pub mod Laws
 pub mod Marks

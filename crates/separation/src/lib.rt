@@ -1,18 +1,40 @@
 // Separations: how much of each of the eight colorants three ink values call for (rules 4.1 to 4.5).
 #![tactic(auto)]
 
-ghost use Rattle.std.specs.Prelude.{◌≡◌, cond, ◌-◌, ◌≤◌, ◌<◌, min, max};
-ghost use Rattle.separation.specs.Weights.{full, demichel_weight, kueppers_weight, weight, weights_of, scale_of};
+ghost use Rattle.std.specs.Prelude.{◌≡◌, cond, ◌-◌, ◌≤◌};
+ghost use Rattle.separation.specs.Numbers.{Numbers};
+ghost use Rattle.separation.specs.Weights.{full, demichel_weight, kueppers_weight, weights_of, scale_of};
+
+use std::array;
 
 // How ink values become weights.
-#[derive(Clone, Copy, Debug, PartialEq, Eq)]
+#[derive(Clone, Copy, Debug, PartialEq, Eq, Hash)]
 pub enum Separation {
     Demichel,
     Kueppers,
 }
 
+// A number that no separation has.
+#[derive(Clone, Copy, Debug, PartialEq, Eq, Hash)]
+pub struct UnknownSeparation(pub u32);
+
+// The separation that a number stands for (rule 14.3).
+impl TryFrom<u32> for Separation {
+    type Error = UnknownSeparation;
+
+    ghost try_from_gives = { Numbers };
+
+    fn try_from(number: u32) -> Result<Separation, UnknownSeparation> {
+        match number {
+            0 => Ok(Separation::Demichel),
+            1 => Ok(Separation::Kueppers),
+            _ => Err(UnknownSeparation(number)),
+        }
+    }
+}
+
 // The values of the inks cyan, magenta and yellow, 255 being full.
-#[derive(Clone, Copy, Debug, PartialEq, Eq)]
+#[derive(Clone, Copy, Debug, PartialEq, Eq, Hash)]
 pub struct Inks {
     pub c: u8,
     pub m: u8,
@@ -35,17 +57,18 @@ const HOLDS: [[bool; 3]; 8] = [
 const FULL: u64 = 255;
 
 // The weights of the eight colorants, in the order of their numbers.
+#[tactic(auto, unfolding(crate::specs::Weights::weights_of, crate::specs::Weights::weight, arith::specs::Run::upto))]
 pub fn weights(sep: Separation, inks: Inks) -> [u64; 8]
     ensures { result ≡ weights_of sep inks }
 {
-    let mut of = [0u64; 8];
-    for j in 0..8 {
-        of[j] = weight(sep, inks, j);
+    match sep {
+        Separation::Demichel => array::from_fn(|j| demichel(HOLDS[j], inks)),
+        Separation::Kueppers => array::from_fn(|j| kueppers(HOLDS[j], inks)),
     }
-    of
 }
 
 // The scale D, the sum of the eight weights.
+#[tactic(auto, unfolding(crate::specs::Weights::scale_of))]
 pub fn scale(sep: Separation) -> u64
     ensures { result ≡ scale_of sep }
 {
@@ -55,19 +78,8 @@ pub fn scale(sep: Separation) -> u64
     }
 }
 
-// The weight of colorant j.
-fn weight(sep: Separation, inks: Inks, j: usize) -> u64
-    requires { j < 8 }
-    ensures { result ≡ weight sep inks j }
-{
-    let held = HOLDS[j];
-    match sep {
-        Separation::Demichel => demichel(held, inks),
-        Separation::Kueppers => kueppers(held, inks),
-    }
-}
-
 // The product of three factors, one for each ink.
+#[tactic(auto, unfolding(crate::specs::Weights::demichel_weight))]
 fn demichel(held: [bool; 3], inks: Inks) -> u64
     ensures { result ≡ demichel_weight held inks }
 {
@@ -75,18 +87,13 @@ fn demichel(held: [bool; 3], inks: Inks) -> u64
 }
 
 // The least value held less the greatest not held; 0 where that is the larger.
+#[tactic(auto, unfolding(crate::specs::Weights::kueppers_weight))]
 fn kueppers(held: [bool; 3], inks: Inks) -> u64
     ensures { result ≡ kueppers_weight held inks }
 {
-    let low = least(
-        if_held(held[0], inks.c),
-        least(if_held(held[1], inks.m), if_held(held[2], inks.y)),
-    );
-    let high = greatest(
-        if_free(held[0], inks.c),
-        greatest(if_free(held[1], inks.m), if_free(held[2], inks.y)),
-    );
-    if low < high { 0 } else { low - high }
+    let low = if_held(held[0], inks.c).min(if_held(held[1], inks.m).min(if_held(held[2], inks.y)));
+    let high = if_free(held[0], inks.c).max(if_free(held[1], inks.m).max(if_free(held[2], inks.y)));
+    low.saturating_sub(high)
 }
 
 // An ink's factor in a Demichel weight.
@@ -94,9 +101,9 @@ fn factor(held: bool, value: u8) -> u64
     ensures { (result ≡ cond held value (full - value)) × (result ≤ 255) }
 {
     if held {
-        value as u64
+        u64::from(value)
     } else {
-        FULL - value as u64
+        FULL - u64::from(value)
     }
 }
 
@@ -104,24 +111,12 @@ fn factor(held: bool, value: u8) -> u64
 fn if_held(held: bool, value: u8) -> u64
     ensures { result ≡ cond held value full }
 {
-    if held { value as u64 } else { FULL }
+    if held { u64::from(value) } else { FULL }
 }
 
 // The value of an ink that is not held, and 0 for one that is.
 fn if_free(held: bool, value: u8) -> u64
     ensures { result ≡ cond held 0 value }
 {
-    if held { 0 } else { value as u64 }
-}
-
-fn least(a: u64, b: u64) -> u64
-    ensures { result ≡ min a b }
-{
-    if a < b { a } else { b }
-}
-
-fn greatest(a: u64, b: u64) -> u64
-    ensures { result ≡ max a b }
-{
-    if a < b { b } else { a }
+    if held { 0 } else { u64::from(value) }
 }

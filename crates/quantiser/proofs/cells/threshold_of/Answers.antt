@@ -1,60 +1,36 @@
--- `quantiser::cells::threshold_of` meets its contract, by the laws of its loop (ThresholdLoop). The measure is how many subscreens are left.
+-- `quantiser::cells::threshold_of` meets its contract, by the laws of its loop (ThresholdLoop).
 -- Assumes nothing.
 use Prim.Native.Nat.{◌+◌, ◌-◌, ◌≤◌}
 use native.Mathlib.Nat.{mul-le-mul}
 use native.Mathlib.Omega.{arith}
 use Rattle.screen.proofs.Published.{admitted_words}
-use Rattle.quantiser.proofs.ThresholdLoop.{passed_start, ends_within, passed_next, passed_end}
+use Rattle.quantiser.proofs.ThresholdLoop.{passed_start, ends_within, passed_next, passed_end, passed_all}
 use Rattle.quantiser.proofs.cells.threshold_of.Goals as goal
 
-pub nonzero_div-next : goal.nonzero_div-next
-nonzero_div-next c = ((admitted_words _).0 c.requires.0).subscreens_above
-
-pub loop-next-init : goal.loop-next-init
-loop-next-init c = passed_start c.requires.0
-
-pub overflow_add-subscreen : goal.overflow_add-subscreen
-overflow_add-subscreen c = omega (arith, c.loop-next.invariant.low, ((admitted_words _).0 c.requires.0).subscreens_limit)
+pub loop-subscreen-init : goal.loop-subscreen-init
+loop-subscreen-init c = passed_start
 
 pub overflow_add-next : goal.overflow_add-next
 overflow_add-next c =
     let limits = (admitted_words _).0 c.requires.0 in
-    omega (arith, c.loop-next.invariant.low, limits.subscreens_limit, limits.cells_limit)
+    omega (arith, limits.subscreens_limit, limits.cells_limit)
 
-pub nonzero_div-next-in-loop-next : goal.nonzero_div-next-in-loop-next
-nonzero_div-next-in-loop-next c = ((admitted_words _).0 c.requires.0).subscreens_above
-
-pub loop-next-preserved : goal.loop-next-preserved
-loop-next-preserved c =
-    let pre = c.requires in
-    passed_next pre.0 pre.1 c.loop-next.invariant c.loop-next-test.true
-
-pub overflow_add-next-in-loop-next : goal.overflow_add-next-in-loop-next
-overflow_add-next-in-loop-next c =
-    let pre = c.requires in
-    omega (arith, ends_within pre.0 pre.1 (loop-next-preserved c), ((admitted_words _).0 pre.0).cells_limit)
-
-pub loop-next-smaller : goal.loop-next-smaller
-loop-next-smaller c = omega (arith, c.loop-next.invariant.low)
-
-pub overflow_sub-result : goal.overflow_sub-result
-overflow_sub-result c = c.loop-next.invariant.reached
-
-pub overflow_add-result : goal.overflow_add-result
-overflow_add-result c =
-    let pre = c.requires in
-    omega (arith, pre.1, ((admitted_words _).0 pre.0).cells_limit)
+pub overflow_add-next-in-loop-subscreen : goal.overflow_add-next-in-loop-subscreen
+overflow_add-next-in-loop-subscreen c =
+    let ok = c.requires.0 in
+    omega (arith, ends_within ok c.loop-subscreen.invariant c.loop-subscreen-test.true, ((admitted_words _).0 ok).cells_limit)
 
 pub overflow_mul-result : goal.overflow_mul-result
 overflow_mul-result c =
     let limits = (admitted_words _).0 c.requires.0 in
-    let few : c.args.phase - c.loop-next.passed + 1 ≤ 4096 = omega (arith, c.requires.1, limits.cells_limit) in
+    let few : c.args.phase - c.loop-subscreen.passed + 1 ≤ 4096 = omega (arith, c.requires.1, limits.cells_limit) in
     omega (arith, mul-le-mul {m₂ = 16} few limits.subscreens_limit)
 
-pub overflow_sub-result-2 : goal.overflow_sub-result-2
-overflow_sub-result-2 c = omega (arith, c.loop-next.invariant.low)
+pub returns-then-phase-next : goal.returns-then-phase-next
+returns-then-phase-next c = passed_end c.requires.0 c.loop-subscreen.invariant c.loop-subscreen-test.true c.if-phase-next.true
 
-pub returns : goal.returns
-returns c =
-    let pre = c.requires in
-    passed_end pre.0 pre.1 c.loop-next.invariant (omega (arith, c.loop-next-test.false))
+pub loop-subscreen-preserved : goal.loop-subscreen-preserved
+loop-subscreen-preserved c = passed_next c.requires.0 c.loop-subscreen.invariant c.loop-subscreen-test.true c.if-phase-next.false
+
+pub unreachable-requires : goal.unreachable-requires
+unreachable-requires c = passed_all c.requires.0 c.loop-subscreen.invariant c.requires.1 c.loop-subscreen-test.false

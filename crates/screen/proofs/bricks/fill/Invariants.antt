@@ -1,10 +1,6 @@
--- What the loop of `screen::bricks::fill` keeps, and its measure.
-use Prim.Native.Nat.{◌-◌}
+-- What the loop of `screen::bricks::fill` keeps.
 use Rattle.screen.proofs.FillLoop.{FillAt}
 use Rattle.screen.proofs.bricks.fill.Given as goal
 
 abbrev pub invariant-loop-place : goal.invariant-loop-place
 invariant-loop-place l = FillAt l.a l.b l.n l.g l.initial.brick l.brick l.phase l.column l.place
-
-abbrev pub decreases-loop-place : goal.decreases-loop-place
-decreases-loop-place l = l.n - l.place
