@@ -81,7 +81,7 @@ fn paint<S: Source>(
         return [0; 8];
     }
     let mut table = places();
-    quantiser::thresholds(s, &mut table);
+    quantiser::thresholds(s, &mut table).unwrap();
     let painter = Painter {
         screen: s,
         sep,
