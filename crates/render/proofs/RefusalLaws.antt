@@ -15,7 +15,6 @@ use Rattle.std.proofs.lemmas.List.{get_or-take}
 use Rattle.std.proofs.lemmas.Slice.Eq.{slice_eq-Decides}
 use Rattle.std.proofs.lemmas.Bool.Decides.{Decides-eqb}
 use borrow.Author.Tests.{leb-true, eqb-true, le-leb, lt-leb, eq-eqb, ne_eqb}
-use Rattle.arith.specs.Every.{every}
 use Rattle.arith.specs.Run.{zeros}
 use Rattle.arith.specs.Sheet.{on_sheet}
 use Rattle.arith.proofs.EveryLaws.{every_passes, every_made, every_is}

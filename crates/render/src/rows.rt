@@ -38,7 +38,12 @@ impl Painter<'_> {
             let from = j as usize * wide;
             let to = from + wide;
             let phases = source.row(w.x, w.y + j);
-            self.row(phases, &input[3 * from..3 * to], &mut out[from..to], &mut tallies);
+            self.row(
+                phases,
+                &input[3 * from..3 * to],
+                &mut out[from..to],
+                &mut tallies,
+            );
         }
         tallies
     }

@@ -1,5 +1,4 @@
 -- `render::windows::paint` meets its contract: no cells, or all of them by the thresholds of the table. Assumes nothing.
-use Prim.Native.Nat.{ℕ}
 use mathlib.Core.Path.{sym, ◌∙◌}
 use mathlib.Core.Bool.{false≢true}
 use borrow.Author.Tests.{eqb-true, eq-eqb}

@@ -1,5 +1,4 @@
 -- `render::bricks::LentSource::row` meets its contract, by the laws of a brick's row (BrickRow). Assumes nothing.
-use Prim.Native.Nat.{ℕ}
 use Rattle.render.proofs.BrickRow.{line_length, line_reads}
 use Rattle.render.proofs.bricks.LentSource.row.Goals as goal
 

@@ -1,7 +1,6 @@
 -- `render::worked::WorkedSource::row` meets its contract: a row begins at the phase of its first column and is carried by a.
 -- Assumes nothing.
-use Prim.Native.Nat.{ℕ, ◌<◌, ◌≤◌}
-use mathlib.Core.Path.{◌≡◌, sym, ◌∙◌}
+use mathlib.Core.Path.{sym, ◌∙◌}
 use native.Mathlib.Nat.{le_of_lt, mod-lt}
 use Rattle.arith.proofs.RemainderLaws.{remainder_times}
 use Rattle.screen.proofs.Published.{admitted_words, phase_below, steps_right}
