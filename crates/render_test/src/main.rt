@@ -3,6 +3,8 @@
 // lone places, mixed cases, and stored numbers that are wrong. The file stdout holds what this must print.
 #![tactic(auto)]
 
+ghost use Rattle.std.specs.Prelude.{◌<◌};
+
 use arith::Refusal;
 use render::Window;
 use screen::Screen;
@@ -37,7 +39,9 @@ struct Case {
 }
 
 fn main(rt: HostRuntime) -> io::Result<()> {
-    println!(rt; "# a b n k g, separation, x y columns rows, c m y by, lent input output brick, wrong place:")?;
+    println!(rt;
+        "# a b n k g, separation, x y columns rows, c m y by, lent input output brick, wrong place:"
+    )?;
     println!(rt; "# phases worked out, then read: refusal; tallies; output, every byte 9 before")?;
     patches(&rt)?;
     own_values(&rt)?;
@@ -61,9 +65,19 @@ fn patches(rt: &impl Print) -> io::Result<()> {
     let blue = values_of(128, 128, 0, 1);
     let olive = values_of(51, 102, 204, 1);
     let none = values_of(0, 0, 0, 1);
-    show_both(rt, screen_of(4, 7, 105, 2, 0), window_of(0, 0, 105, 1), blue)?;
+    show_both(
+        rt,
+        screen_of(4, 7, 105, 2, 0),
+        window_of(0, 0, 105, 1),
+        blue,
+    )?;
     show_both(rt, screen_of(4, 7, 70, 2, 0), window_of(0, 0, 35, 2), olive)?;
-    show_both(rt, screen_of(4, 7, 70, 3, 69), window_of(17, 23, 35, 2), olive)?;
+    show_both(
+        rt,
+        screen_of(4, 7, 70, 3, 69),
+        window_of(17, 23, 35, 2),
+        olive,
+    )?;
     show_both(rt, screen_of(4, 7, 20, 3, 6), window_of(3, 2, 10, 8), olive)?;
     show_both(rt, screen_of(1, 2, 1, 1, 0), window_of(5, 6, 3, 2), blue)?;
     show_both(rt, usual(), window_of(5, 6, 3, 2), none)
@@ -72,9 +86,24 @@ fn patches(rt: &impl Print) -> io::Result<()> {
 // Each pixel in its own colour, from corners that are not a brick's.
 fn own_values(rt: &impl Print) -> io::Result<()> {
     let values = values_of(13, 77, 251, 77);
-    show_both(rt, screen_of(4, 7, 70, 2, 3), window_of(101, 60001, 13, 8), values)?;
-    show_both(rt, screen_of(4, 7, 105, 16, 104), window_of(7, 1, 9, 11), values)?;
-    show_both(rt, screen_of(60, 61, 48, 5, 17), window_of(1, 50, 5, 20), values)?;
+    show_both(
+        rt,
+        screen_of(4, 7, 70, 2, 3),
+        window_of(101, 60001, 13, 8),
+        values,
+    )?;
+    show_both(
+        rt,
+        screen_of(4, 7, 105, 16, 104),
+        window_of(7, 1, 9, 11),
+        values,
+    )?;
+    show_both(
+        rt,
+        screen_of(60, 61, 48, 5, 17),
+        window_of(1, 50, 5, 20),
+        values,
+    )?;
     show_both(rt, screen_of(4, 7, 3, 2, 1), window_of(1, 1, 8, 3), values)
 }
 
@@ -132,7 +161,12 @@ fn lengths(rt: &impl Print) -> io::Result<()> {
     for (input, out) in [(18, 6), (17, 6), (19, 6), (18, 5), (18, 7), (18, 0)] {
         show_lent(rt, usual(), w, lent_of(input, out, 106, None))?;
     }
-    show_lent(rt, usual(), window_of(0, 0, 65536, 65536), lent_of(0, 0, 106, None))
+    show_lent(
+        rt,
+        usual(),
+        window_of(0, 0, 65536, 65536),
+        lent_of(0, 0, 106, None),
+    )
 }
 
 // Refusal 8: bricks of n - 1, n and n + 1 places, and one number wrong, within n and behind.
@@ -165,7 +199,12 @@ fn lowest_first(rt: &impl Print) -> io::Result<()> {
     let s = usual();
     let off = window_of(65536, 9, 3, 2);
     let on = window_of(8, 9, 3, 2);
-    show_lent(rt, screen_of(4, 7, 70, 2, 70), off, lent_of(17, 5, 69, None))?;
+    show_lent(
+        rt,
+        screen_of(4, 7, 70, 2, 70),
+        off,
+        lent_of(17, 5, 69, None),
+    )?;
     show_lent(rt, s, off, lent_of(17, 6, 70, None))?;
     show_lent(rt, s, on, lent_of(17, 5, 70, None))?;
     show_lent(rt, s, on, lent_of(18, 5, 69, None))?;
@@ -240,7 +279,12 @@ fn stored_windows(rt: &impl Print) -> io::Result<()> {
     show_storing(rt, shifted, on, lent_of(17, 6, 70, None))?;
     show_storing(rt, shifted, on, lent_of(18, 5, 70, None))?;
     show_storing(rt, shifted, on, lent_of(18, 6, 69, None))?;
-    show_storing(rt, shifted, window_of(65536, 9, 3, 2), lent_of(17, 5, 69, None))
+    show_storing(
+        rt,
+        shifted,
+        window_of(65536, 9, 3, 2),
+        lent_of(17, 5, 69, None),
+    )
 }
 
 fn show_storing(rt: &impl Print, s: Screen, w: Window, lent: Lent) -> io::Result<()> {
@@ -431,7 +475,13 @@ fn fill_input(input: &mut [u8], values: Values) {
 
 // The renderer that works phases out.
 fn show_worked(rt: &impl Print, case: Case, input: &[u8]) -> io::Result<()> {
-    let Case { s, sep, w, lent, .. } = case;
+    let Case {
+        s,
+        sep,
+        w,
+        lent,
+        ..
+    } = case;
     let mut out = [9u8; 105];
     let inputs = lent.input.min(input.len());
     let outputs = lent.out.min(out.len());
@@ -441,7 +491,13 @@ fn show_worked(rt: &impl Print, case: Case, input: &[u8]) -> io::Result<()> {
 
 // The renderer that reads phases from the brick.
 fn show_read(rt: &impl Print, case: Case, input: &[u8]) -> io::Result<()> {
-    let Case { s, sep, w, lent, .. } = case;
+    let Case {
+        s,
+        sep,
+        w,
+        lent,
+        ..
+    } = case;
     let mut brick = [65535u16; 106];
     // Where the screen is refused, the brick stays as it is.
     let _ = screen::fill_brick(s, &mut brick);
@@ -471,7 +527,13 @@ fn spoil(brick: &mut [u16], wrong: Option<usize>) {
 }
 
 fn show_question(rt: &impl Print, case: Case) -> io::Result<()> {
-    let Case { s, sep, w, values, lent } = case;
+    let Case {
+        s,
+        sep,
+        w,
+        values,
+        lent,
+    } = case;
     show_screen(rt, s)?;
     let name = match sep {
         Separation::Demichel => "demichel",
@@ -480,7 +542,10 @@ fn show_question(rt: &impl Print, case: Case) -> io::Result<()> {
     print!(rt; ", {name}, {} {} {} {}", w.x, w.y, w.columns, w.rows)?;
     show_inks(rt, values.inks)?;
     let wrong = lent.wrong.unwrap_or(106);
-    println!(rt; " {}, {} {} {} {wrong}:", values.by, lent.input, lent.out, lent.brick)
+    println!(rt;
+        " {}, {} {} {} {wrong}:",
+        values.by, lent.input, lent.out, lent.brick
+    )
 }
 
 fn show_rendering(
