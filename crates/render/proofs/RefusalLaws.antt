@@ -97,7 +97,7 @@ places_enough s ok memory e = rw (e, zeros_length) ((admitted_words s).0 ok).cel
 -- ---- 8: the brick
 
 module _ (s : Screen) (brick : List ℕ) where
-  pub due_short : length brick < s.n → false ≡ due_in s brick
+  due_short : length brick < s.n → false ≡ due_in s brick
   unfolding due_in
   due_short h = sym (rw (lt-leb _ _ h))
 
