@@ -4,7 +4,7 @@ ghost use Rattle.render.specs.Windows.{tallies_of};
 ghost use Rattle.render.specs.Rows.{TableOf, Cells, RowLent, RowsLent, tallied_on};
 
 use crate::Window;
-use crate::cells::{inks_at, painted, unpainted};
+use crate::cells::{inks_at, unpainted};
 use crate::phases::{Phases, Source};
 use screen::Screen;
 use separation::Separation;
@@ -64,7 +64,7 @@ impl Painter<'_> {
         let mut paint = unpainted(self.screen.n, self.sep);
         for (i, cell) in out.iter_mut().enumerate() {
             let threshold = self.table[phases.next() as usize];
-            paint = painted(paint, self.screen.n, self.sep, inks_at(input, i), threshold);
+            paint.turn(self.screen.n, self.sep, inks_at(input, i), threshold);
             *cell = paint.cell;
             tallies[paint.cell as usize] += 1;
         }
