@@ -24,7 +24,7 @@ line_of size brick y = take (y % size.rows * size.columns + size.columns - y % s
 abbrev first_of : Brick → ℕ → ℕ → ℕ
 first_of size x y = (x % size.columns + size.columns - size.shift * (y / size.rows) % size.columns) % size.columns
 
-module _ {n : ℕ} {size : Brick} {brick : List ℕ} (b : BrickLent n size brick) (few : n ≤ 4096) where
+module _ {n : ℕ} {size : Brick} {brick : List ℕ} (b : BrickLent n size brick) where
   -- it lies within the brick
   line_fits : (y : ℕ) → y % size.rows * size.columns + size.columns ≤ n
   line_fits y = omega (arith, mul-le-mul_right size.columns (mod-lt y b.high), b.places)

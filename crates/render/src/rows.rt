@@ -49,6 +49,7 @@ impl Painter<'_> {
     }
 
     // Writes the cells of a row, whose phases are below n, and adds them to the tallies.
+    #[tactic(auto, using(crate::proofs::RowLoop::paint_small))]
     fn row<P: Phases + Copy>(
         &self,
         mut phases: P,

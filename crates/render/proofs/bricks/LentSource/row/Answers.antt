@@ -5,4 +5,4 @@ use Rattle.render.proofs.bricks.LentSource.row.Goals as goal
 pub returns : goal.returns
 returns c =
     let s = c.args.self.now in
-    λ i. rw (line_length s.lent s.few c.args.y) (line_reads s.lent s.few c.args.x c.args.y i)
+    λ i. rw (line_length s.lent c.args.y) (line_reads s.lent c.args.x c.args.y i)

@@ -16,19 +16,9 @@ bounds-self-next g c =
     let low : c.next.result < c.args.self.now.screen.n = rw (c.next.ensures.here, c.loop-i.invariant.2 0) (c.requires.phases_low _) in
     omega (arith, low, c.args.self.now.listed.long)
 
-pub turn-requires : goal.turn-requires
-turn-requires g c = c.loop-i.invariant.1
-
-pub bounds-tallies-paint : goal.bounds-tallies-paint
-bounds-tallies-paint g c = paint_small _ _ _ _ c.turn.ensures
-
 pub overflow_add-tallies : goal.overflow_add-tallies
 overflow_add-tallies g c =
-    let cell = c.turn.new.self.cell in
-    omega (arith, row_count c.loop-i.invariant.0 cell, c.requires.row_lent.room cell, c.loop-i.invariant.0.cells.within)
-
-pub bounds-tallies-paint-in-loop-i : goal.bounds-tallies-paint-in-loop-i
-bounds-tallies-paint-in-loop-i g c = paint_small _ _ _ _ c.turn.ensures
+    omega (arith, row_count c.loop-i.invariant.0 c.turn.new.self.cell, c.requires.row_lent.room c.turn.new.self.cell, c.loop-i.invariant.0.cells.within)
 
 pub loop-i-preserved : goal.loop-i-preserved
 loop-i-preserved g c =
