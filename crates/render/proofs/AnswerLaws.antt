@@ -16,7 +16,7 @@ use Rattle.std.specs.Prelude.{Result, Ok, Err, IsErr, IfOk}
 use Rattle.arith.specs.Sum.{sum_below}
 use Rattle.arith.specs.Tally.{tally}
 use Rattle.arith.specs.declared.refusals.Refusal.{Refusal}
-use Rattle.arith.specs.Refusal.{answered, written, number, number_of}
+use Rattle.arith.specs.Refusal.{answered, written, number_of}
 use Rattle.arith.proofs.SumLaws.{sum_same}
 use Rattle.arith.proofs.TallyLaws.{tallies_most}
 use Rattle.arith.proofs.RefusalLaws.{or_none, number_above, answered_none, answered_whole, written_none, written_all, written_refused}
@@ -24,17 +24,17 @@ use Rattle.arith.proofs.RunLaws.{upto_length, upto_at, upto_same}
 use Rattle.screen.specs.declared.Screen.{Screen}
 use Rattle.screen.specs.Screens.{Admitted}
 use Rattle.screen.specs.Phase.{phase, place_refusal}
-use Rattle.screen.proofs.Published.{admitted_words, phase_below, place_answered}
+use Rattle.screen.proofs.Published.{phase_below, place_answered}
 use Rattle.separation.specs.declared.Separation.{Separation}
 use Rattle.separation.specs.declared.Inks.{Inks}
 use Rattle.separation.specs.Weights.{scale_of}
 use Rattle.separation.specs.Laws.{InkValues}
 use Rattle.quantiser.specs.Subscreens.{colorant_of}
 use Rattle.quantiser.specs.Leaves.{threshold_of, thresholds_in, lone_threshold, levels_of, rank}
-use Rattle.quantiser.proofs.Published.{threshold_within, threshold_listed, threshold_answered, colorant_rank}
+use Rattle.quantiser.proofs.Published.{threshold_listed, threshold_answered, colorant_rank}
 use Rattle.render.specs.declared.Window.{Window}
 use Rattle.render.specs.Windows.{area, inks_at, cell_of, window_cell, window_cells, tallies_of}
-use Rattle.render.specs.Answers.{Rendering, Cell, told, window_refusal, brick_refusal, answer_of, rendering, rendered, brick_rendering, lone_cell}
+use Rattle.render.specs.Answers.{Rendering, told, window_refusal, brick_refusal, answer_of, rendering, rendered, brick_rendering, lone_cell}
 use Rattle.render.specs.Laws.{TalliesOnSheet, lone_window, lone_input, LoneCellRendered}
 use Rattle.render.specs.Rows.{TableOf, cells_by, RowsLent}
 use Rattle.render.proofs.RefusalLaws.{area_limit, window_kept, places_enough}

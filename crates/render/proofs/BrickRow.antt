@@ -4,7 +4,7 @@
 use Prim.Native.Nat.{ℕ, ◌+◌, ◌-◌, ◌*◌, ◌/◌, ◌%◌, ◌≤◌, ◌<◌}
 use mathlib.Core.Path.{◌≡◌, sym, ap, ◌∙◌}
 use mathlib.Core.List.{List}
-use native.Mathlib.Nat.{le_trans, le-mul_of_pos_right, mul_comm, mul-le-mul, mul-le-mul_right, mod-lt, div-le_self, div-lt_iff_lt-mul, div-add-mod'}
+use native.Mathlib.Nat.{mul-le-mul_right, mod-lt, div-lt_iff_lt-mul, div-add-mod'}
 use native.Mathlib.Omega.{arith}
 use lib.ListN.{length, get_or, take, drop}
 use Rattle.arith.proofs.RunLaws.{part_length, part_at}
@@ -24,16 +24,9 @@ line_of size brick y = take (y % size.rows * size.columns + size.columns - y % s
 abbrev first_of : Brick → ℕ → ℕ → ℕ
 first_of size x y = (x % size.columns + size.columns - size.shift * (y / size.rows) % size.columns) % size.columns
 
-module _ {n : ℕ} {size : Brick} {brick : List ℕ} (b : BrickLent n size brick) (few : n ≤ 4096) where
-  pub columns_limit : size.columns ≤ 4096
-  columns_limit = le_trans (rw (← b.places, mul_comm size.rows size.columns) (le-mul_of_pos_right size.columns b.high)) few
-
-  pub behind_fits : (y : ℕ) → y < 65536 → size.shift * (y / size.rows) ≤ 4096 * 65536
-  behind_fits y l =
-      mul-le-mul {n₁ = size.shift} {m₁ = y / size.rows} {n₂ = 4096} {m₂ = 65536} (omega (arith, b.shifted, columns_limit)) (omega (arith, div-le_self y size.rows))
-
+module _ {n : ℕ} {size : Brick} {brick : List ℕ} (b : BrickLent n size brick) where
   -- it lies within the brick
-  pub line_fits : (y : ℕ) → y % size.rows * size.columns + size.columns ≤ n
+  line_fits : (y : ℕ) → y % size.rows * size.columns + size.columns ≤ n
   line_fits y = omega (arith, mul-le-mul_right size.columns (mod-lt y b.high), b.places)
 
   pub line_length : (y : ℕ) → length (line_of size brick y) ≡ size.columns
@@ -41,9 +34,6 @@ module _ {n : ℕ} {size : Brick} {brick : List ℕ} (b : BrickLent n size brick
 
   line_at : (y i : ℕ) → i < size.columns → get_or (line_of size brick y) i 0 ≡ get_or brick (y % size.rows * size.columns + i) 0
   line_at y i l = part_at (y % size.rows * size.columns) (y % size.rows * size.columns + size.columns) brick i (omega arith)
-
-  pub line_low : (y i : ℕ) → i < size.columns → get_or (line_of size brick y) i 0 < n
-  line_low y i l = rw (line_at y i l) (b.low (y % size.rows * size.columns + i) (omega (arith, line_fits y)))
 
   pub line_reads : (x y i : ℕ) → get_or (line_of size brick y) ((first_of size x y + i) % size.columns) 0 ≡ number_read size brick (x + i) y
   unfolding brick_place

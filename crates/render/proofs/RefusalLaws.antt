@@ -15,7 +15,6 @@ use Rattle.std.proofs.lemmas.List.{get_or-take}
 use Rattle.std.proofs.lemmas.Slice.Eq.{slice_eq-Decides}
 use Rattle.std.proofs.lemmas.Bool.Decides.{Decides-eqb}
 use borrow.Author.Tests.{leb-true, eqb-true, le-leb, lt-leb, eq-eqb, ne_eqb}
-use Rattle.arith.specs.Every.{every}
 use Rattle.arith.specs.Run.{zeros}
 use Rattle.arith.specs.Sheet.{on_sheet}
 use Rattle.arith.proofs.EveryLaws.{every_passes, every_made, every_is}
@@ -79,14 +78,14 @@ module _ (s : Screen) (w : Window) (inputs outputs : ℕ) where
           unfolding window_refusal
           window_whole h = sym (refused_later (refusal_of s) _ e ∙ rw (on_sheet_lem _ _ _ _ right down, eq-eqb _ _ input, eq-eqb _ _ h))
 
+-- a call that is not refused is served
+pub served : {T : Type 0} (r : Result T Refusal) → number_of r ≡ 0 → IsOk r
+served (Ok answer) z = refl
+served (Err e) z = absurd (omega (arith, number_above e, z))
+
 -- a place on the sheet of an admitted screen is not refused, and so has its phase
-pub place_served : (s : Screen) (x y : ℕ) (r : Result ℕ Refusal) → Admitted s → x < 65536 → y < 65536 → number_of r ≡ place_refusal s x y → IsOk r
-place_served s x y r ok across down e =
-    go r (e ∙ sym (place_answered s x y).0 ∙ ap (λ (p : Place). p.refusal) (place_on_sheet s ok x y across down))
-  where
-    go : (r : Result ℕ Refusal) → number_of r ≡ 0 → IsOk r
-    go (Ok p) z = refl
-    go (Err e) z = absurd (omega (arith, number_above e, z))
+pub place_free : (s : Screen) (x y : ℕ) → Admitted s → x < 65536 → y < 65536 → place_refusal s x y ≡ 0
+place_free s x y ok across down = sym (place_answered s x y).0 ∙ ap (λ (p : Place). p.refusal) (place_on_sheet s ok x y across down)
 
 pub place_phase : {r : Result ℕ Refusal} {p v : ℕ} → r ≡ Ok p → IfOk r (λ q. q ≡ v) → p ≡ v
 place_phase {r} {p} {v} is phase = rw is at phase
@@ -98,7 +97,7 @@ places_enough s ok memory e = rw (e, zeros_length) ((admitted_words s).0 ok).cel
 -- ---- 8: the brick
 
 module _ (s : Screen) (brick : List ℕ) where
-  pub due_short : length brick < s.n → false ≡ due_in s brick
+  due_short : length brick < s.n → false ≡ due_in s brick
   unfolding due_in
   due_short h = sym (rw (lt-leb _ _ h))
 
@@ -145,8 +144,8 @@ due_compared s brick due r e room holds compared =
     ∙ sym (upto_is (λ i. get_or due i 0) n (take n due) (omega (arith, length-take n due, (holds e).0)) read_due))))
 
 -- 4,096 places are not refused, and filled they are a true brick
-pub places_served : (s : Screen) (memory : List ℕ) → Admitted s → memory ≡ zeros 4096 → (e : Refusal) → number e ≡ buffer_refusal s (length memory) → ⊥
-places_served s memory ok room e same = omega (arith, number_above e, same, (buffer_tests s (length memory)).2 ok (places_enough s ok memory room))
+pub places_free : (s : Screen) (memory : List ℕ) → Admitted s → memory ≡ zeros 4096 → buffer_refusal s (length memory) ≡ 0
+places_free s memory ok room = sym ((buffer_tests s (length memory)).2 ok (places_enough s ok memory room))
 
 pub due_filled : (s : Screen) (memory due : List ℕ) → Admitted s → memory ≡ zeros 4096 → due ≡ filled s memory → TrueBrick s due
 due_filled s memory due e q h = rw h (filled_is_true s memory (places_enough s e memory q))

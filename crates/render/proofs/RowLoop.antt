@@ -9,10 +9,8 @@ use native.Mathlib.Numerals.{add-one}
 use native.Mathlib.Omega.{arith}
 use lib.ListN.{length, get_or, set}
 use Rattle.arith.specs.Run.{upto}
-use Rattle.arith.proofs.RunLaws.{Filling, filling_start, filling_length, filling_store, filling_whole, upto_length, upto_same, upto_most}
+use Rattle.arith.proofs.RunLaws.{Filling, filling_start, filling_store, filling_whole, upto_length, upto_same, upto_most}
 use Rattle.arith.proofs.TallyLaws.{tally_most, tallies_bump, tallies_none}
-use Rattle.screen.specs.declared.Screen.{Screen}
-use Rattle.screen.proofs.Published.{admitted_words}
 use Rattle.separation.specs.declared.Separation.{Separation}
 use Rattle.separation.specs.declared.Inks.{Inks}
 use Rattle.separation.specs.Weights.{scale_of}
@@ -22,13 +20,7 @@ use Rattle.quantiser.specs.Leaves.{levels_of, rank}
 use Rattle.quantiser.proofs.Published.{scale_limit, rank_below, colorant_rank}
 use Rattle.render.specs.declared.cells.Paint.{Paint}
 use Rattle.render.specs.Windows.{inks_at}
-use Rattle.render.specs.Rows.{TableOf, cells_by, Cells, tallied_on, paint_of, Own}
-
--- a screen that has a table has 1 to 4,096 cells
-pub table_cells : {s : Screen} {n : ℕ} {table : List ℕ} → TableOf s n table → (0 < n) × (n ≤ 4096)
-table_cells {s} t =
-    let limits = (admitted_words s).0 t.admitted in
-    (rw t.cells at limits.cells_above, rw t.cells at limits.cells_limit)
+use Rattle.render.specs.Rows.{cells_by, Cells, tallied_on, paint_of, Own}
 
 -- ---- one cell
 
@@ -65,11 +57,6 @@ module _ (n : ℕ) (sep : Separation) (table input : List ℕ) (f : ℕ → ℕ)
           ap₂ (λ (m q : ℕ). rank (levels_of m sep (inks_at input i)) (2 * scale_of sep * q)) (sym t.cells) (t.listed (f i) (low i))
           ∙ colorant_rank s t.admitted sep (inks_at input i) values (f i) (rw t.cells (low i))
 
--- the same phase numbers give the same cells
-pub cells_same : (n : ℕ) (sep : Separation) (table input : List ℕ) (f g : ℕ → ℕ) (cells : ℕ) {out : List ℕ} → ((i : ℕ) → f i ≡ g i) → Cells n sep table input f cells out → Cells n sep table input g cells out
-unfolding cells_by
-cells_same n sep table input f g cells same w s t = w s t ∙ upto_same _ _ cells (λ i l. ap (colorant_of s sep (inks_at input i)) (same i))
-
 -- ---- the phase that is carried, and the column that goes round
 
 pub carried_first : (p a n : ℕ) → p < n → p ≡ (p + a * 0) % n
@@ -95,9 +82,6 @@ unfolding tallied_on upto
 row_start cell out tallies eight = record { cells = filling_start _ _; counts = tallies_none tallies 8 eight }
 
 module _ {cell : ℕ → ℕ} {out₀ tallies₀ out tallies : List ℕ} {i : ℕ} (r : RowAt cell out₀ tallies₀ out tallies i) where
-  pub row_length : length out ≡ length out₀
-  row_length = filling_length r.cells
-
   -- a tally has grown by at most one for each cell
   pub row_count : (k : ℕ) → get_or tallies k 0 ≤ get_or tallies₀ k 0 + i
   unfolding tallied_on

@@ -63,7 +63,7 @@ tallied_more cells more e =
     upto_same _ _ 8 (λ k l. ap (λ (t : ℕ). t + tally k more) (ap (λ (t : List ℕ). get_or t k 0) e ∙ upto_at _ 8 k l) ∙ sym (tally_append k cells more))
 
 module _ {cell : ℕ → ℕ} {columns : ℕ} {out₀ out tallies : List ℕ} {j : ℕ} (v : WindowAt cell columns out₀ out tallies j) where
-  pub window_length : length out ≡ length out₀
+  window_length : length out ≡ length out₀
   window_length = filling_length v.cells
 
   window_eight : length tallies ≡ 8
@@ -77,12 +77,12 @@ module _ {cell : ℕ → ℕ} {columns : ℕ} {out₀ out tallies : List ℕ} {j
 
   module _ {rows : ℕ} (h : j < rows) where
     -- a row before the last ends within the window
-    pub next_fits : j * columns + columns ≤ columns * rows
+    next_fits : j * columns + columns ≤ columns * rows
     next_fits = omega (arith, mul-le-mul_right columns h)
 
     module _ {x y inputs : ℕ} (w : RowsLent x y columns rows inputs (length out₀)) where
       -- few enough cells are written with it
-      pub next_few : j * columns + columns ≤ 65536 * 65536
+      next_few : j * columns + columns ≤ 65536 * 65536
       next_few = omega (arith, next_fits, area_limit x y columns rows w.wide w.high)
 
       -- the parts that are lent for it

@@ -22,7 +22,11 @@ impl<'a> Source for Lent<'a> {
 
     // The line of row y, from the column on that x has in it.
     fn row(&self, x: u32, y: u32) -> Around<'a> {
-        let Brick { columns, rows, shift } = self.size;
+        let Brick {
+            columns,
+            rows,
+            shift,
+        } = self.size;
         let behind = shift * (y / rows) % columns;
         let first = (x % columns + columns - behind) % columns;
         let from = (y % rows * columns) as usize;

@@ -1,7 +1,6 @@
 // One cell: its colour, which it may share with the cell before it, and its colorant.
 ghost use Rattle.std.specs.Prelude.{◌≡◌, ◌+◌, ◌*◌, ◌≤◌, ◌<◌, length};
 ghost use Rattle.separation.specs.Weights.{inks_of};
-ghost use Rattle.quantiser.specs.Leaves.{levels_of};
 ghost use Rattle.render.specs.Windows.{inks_at};
 ghost use Rattle.render.specs.Rows.{Own, paint_of};
 
@@ -44,30 +43,19 @@ pub(crate) fn inks_at(input: &[u8], i: usize) -> Inks
     }
 }
 
-// The next cell, with its own ink values, at a phase of the given threshold.
-#[tactic(auto, unfolding(crate::specs::Rows::paint_of))]
-pub(crate) fn painted(last: Paint, n: u32, sep: Separation, inks: Inks, threshold: u16) -> Paint
-    requires { Own n sep last }
-    ensures { result ≡ paint_of n sep inks threshold }
-{
-    let levels = levels_after(last, n, sep, inks);
-    let bar = last.unit * u64::from(threshold);
-    Paint {
-        inks,
-        unit: last.unit,
-        levels,
-        cell: quantiser::colorant_of(levels, bar),
-    }
-}
-
-// The levels of some ink values, which are not worked out again where the last cell had them.
-fn levels_after(last: Paint, n: u32, sep: Separation, inks: Inks) -> [u64; 8]
-    requires { Own n sep last }
-    ensures { result ≡ levels_of n sep inks }
-{
-    if last.inks == inks {
-        last.levels
-    } else {
-        quantiser::levels(n, sep, inks)
+impl Paint {
+    // Paints the next cell, with ink values of its own, at a phase of the given threshold. Levels are not
+    // worked out again where the last cell had the same ink values.
+    #[tactic(auto, unfolding(crate::specs::Rows::paint_of))]
+    pub(crate) fn turn(&mut self, n: u32, sep: Separation, inks: Inks, threshold: u16)
+        requires { Own n sep self.old }
+        ensures { self.new ≡ paint_of n sep inks threshold }
+    {
+        let bar = self.unit * u64::from(threshold);
+        if self.inks != inks {
+            self.inks = inks;
+            self.levels = quantiser::levels(n, sep, inks);
+        }
+        self.cell = quantiser::colorant_of(self.levels, bar);
     }
 }

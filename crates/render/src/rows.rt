@@ -4,7 +4,7 @@ ghost use Rattle.render.specs.Windows.{tallies_of};
 ghost use Rattle.render.specs.Rows.{TableOf, Cells, RowLent, RowsLent, tallied_on};
 
 use crate::Window;
-use crate::cells::{inks_at, painted, unpainted};
+use crate::cells::{inks_at, unpainted};
 use crate::phases::{Phases, Source};
 use screen::Screen;
 use separation::Separation;
@@ -38,12 +38,18 @@ impl Painter<'_> {
             let from = j as usize * wide;
             let to = from + wide;
             let phases = source.row(w.x, w.y + j);
-            self.row(phases, &input[3 * from..3 * to], &mut out[from..to], &mut tallies);
+            self.row(
+                phases,
+                &input[3 * from..3 * to],
+                &mut out[from..to],
+                &mut tallies,
+            );
         }
         tallies
     }
 
     // Writes the cells of a row, whose phases are below n, and adds them to the tallies.
+    #[tactic(auto, using(crate::proofs::RowLoop::paint_small))]
     fn row<P: Phases + Copy>(
         &self,
         mut phases: P,
@@ -59,7 +65,7 @@ impl Painter<'_> {
         let mut paint = unpainted(self.screen.n, self.sep);
         for (i, cell) in out.iter_mut().enumerate() {
             let threshold = self.table[phases.next() as usize];
-            paint = painted(paint, self.screen.n, self.sep, inks_at(input, i), threshold);
+            paint.turn(self.screen.n, self.sep, inks_at(input, i), threshold);
             *cell = paint.cell;
             tallies[paint.cell as usize] += 1;
         }

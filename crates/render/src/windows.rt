@@ -81,7 +81,7 @@ fn paint<S: Source>(
         return [0; 8];
     }
     let mut table = places();
-    let _ = quantiser::thresholds(s, &mut table);
+    quantiser::thresholds(s, &mut table).unwrap();
     let painter = Painter {
         screen: s,
         sep,
@@ -92,13 +92,7 @@ fn paint<S: Source>(
 
 // The colorant of a lone place, without a table: its phase alone is worked out, and its threshold.
 #[tactic(auto, using(quantiser::proofs::Published::scale_limit), unfolding(crate::specs::Answers::lone_cell))]
-pub fn cell_at(
-    s: Screen,
-    sep: Separation,
-    x: u32,
-    y: u32,
-    inks: Inks,
-) -> Result<u8, Refusal>
+pub fn cell_at(s: Screen, sep: Separation, x: u32, y: u32, inks: Inks) -> Result<u8, Refusal>
     ensures refused { number_of result ≡ (lone_cell s sep x y inks).refusal }
     ensures colorant { IfOk result (λ colorant. colorant ≡ (lone_cell s sep x y inks).colorant) }
 {

@@ -3,11 +3,12 @@
 use mathlib.Core.Path.{sym, ◌∙◌}
 use native.Mathlib.Omega.{arith}
 use lib.ListN.{length-take}
-use Rattle.render.proofs.RefusalLaws.{due_compared, due_filled, places_served, brick_differs, brick_same}
+use Rattle.arith.proofs.RefusalLaws.{number_above}
+use Rattle.render.proofs.RefusalLaws.{due_compared, due_filled, places_free, brick_differs, brick_same}
 use Rattle.render.proofs.refusals.check_brick.Goals as goal
 
 pub returns-in_err-fill_brick : goal.returns-in_err-fill_brick
-returns-in_err-fill_brick c = absurd (places_served _ _ c.requires c.places-due.ensures _ c.in_err-fill_brick.ensures.refused)
+returns-in_err-fill_brick c = absurd (omega (arith, number_above c.in_err-fill_brick.field-0.0, c.in_err-fill_brick.ensures.refused, places_free _ _ c.requires c.places-due.ensures))
 
 pub slice_bounds-due-end : goal.slice_bounds-due-end
 slice_bounds-due-end c = (due_filled _ _ _ c.requires c.places-due.ensures c.fill_brick.ensures.buffer c.requires).0

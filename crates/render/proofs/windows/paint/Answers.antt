@@ -1,10 +1,9 @@
 -- `render::windows::paint` meets its contract: no cells, or all of them by the thresholds of the table. Assumes nothing.
-use Prim.Native.Nat.{ℕ}
 use mathlib.Core.Path.{sym, ◌∙◌}
 use mathlib.Core.Bool.{false≢true}
 use borrow.Author.Tests.{eqb-true, eq-eqb}
 use Rattle.screen.proofs.Published.{phase_below}
-use Rattle.render.proofs.RefusalLaws.{window_kept}
+use Rattle.render.proofs.RefusalLaws.{served, places_free, window_kept}
 use Rattle.render.proofs.AnswerLaws.{none_painted, cells_length_lem, cells_are, rows_lent, table_of}
 use Rattle.render.proofs.windows.paint.Goals as goal
 
@@ -13,6 +12,9 @@ returns-then-is_empty g c =
     let empty = eqb-true _ 0 (sym c.is_empty.ensures ∙ c.if-is_empty.true) in
     let none = none_painted (cells_length_lem _ _ _ _ ∙ sym (window_kept _ _ _ _ c.requires.served).4 ∙ empty) empty in
     record { cells = none.0; counts = none.1 }
+
+pub unwrap-requires : goal.unwrap-requires
+unwrap-requires g c = served _ (c.thresholds.ensures.refused ∙ places_free _ _ (window_kept _ _ _ _ c.requires.served).0 c.places-table.ensures)
 
 pub invariant_of-painter : goal.invariant_of-painter
 invariant_of-painter g c = record { listed = table_of _ _ _ (window_kept _ _ _ _ c.requires.served).0 c.places-table.ensures c.thresholds.ensures.places }

@@ -1,7 +1,7 @@
 -- `render::windows::render_brick` meets its contract: refused or rendered (AnswerLaws, FinishedLaws), its phases read from a true brick
 -- (BrickRow).
 -- Assumes nothing.
-use mathlib.Core.Path.{◌≡◌, sym, ap, ◌∙◌}
+use mathlib.Core.Path.{◌≡◌, sym, ◌∙◌}
 use native.Mathlib.Omega.{arith}
 use lib.ListN.{length}
 use Rattle.std.proofs.Common.{rules, Ok}

@@ -1,9 +1,8 @@
 -- `render::bricks::LentSource::row` meets its contract, by the laws of a brick's row (BrickRow). Assumes nothing.
-use Prim.Native.Nat.{ℕ}
 use Rattle.render.proofs.BrickRow.{line_length, line_reads}
 use Rattle.render.proofs.bricks.LentSource.row.Goals as goal
 
 pub returns : goal.returns
 returns c =
     let s = c.args.self.now in
-    λ i. rw (line_length s.lent s.few c.args.y) (line_reads s.lent s.few c.args.x c.args.y i)
+    λ i. rw (line_length s.lent c.args.y) (line_reads s.lent c.args.x c.args.y i)

@@ -16,26 +16,16 @@ bounds-self-next g c =
     let low : c.next.result < c.args.self.now.screen.n = rw (c.next.ensures.here, c.loop-i.invariant.2 0) (c.requires.phases_low _) in
     omega (arith, low, c.args.self.now.listed.long)
 
-pub painted-paint-requires : goal.painted-paint-requires
-painted-paint-requires g c = c.loop-i.invariant.1
-
-pub bounds-tallies-paint : goal.bounds-tallies-paint
-bounds-tallies-paint g c = paint_small _ _ _ _ c.painted-paint.ensures
-
 pub overflow_add-tallies : goal.overflow_add-tallies
 overflow_add-tallies g c =
-    let cell = c.painted-paint.result.cell in
-    omega (arith, row_count c.loop-i.invariant.0 cell, c.requires.row_lent.room cell, c.loop-i.invariant.0.cells.within)
-
-pub bounds-tallies-paint-in-loop-i : goal.bounds-tallies-paint-in-loop-i
-bounds-tallies-paint-in-loop-i g c = paint_small _ _ _ _ c.painted-paint.ensures
+    omega (arith, row_count c.loop-i.invariant.0 c.turn.new.self.cell, c.requires.row_lent.room c.turn.new.self.cell, c.loop-i.invariant.0.cells.within)
 
 pub loop-i-preserved : goal.loop-i-preserved
 loop-i-preserved g c =
     let inv = c.loop-i.invariant in
     let at = g.P.Phases.at c.args.phases in
     let table = c.args.self.now.table.now in
-    let e = rw c.inks_at.ensures at c.painted-paint.ensures in
+    let e = rw c.inks_at.ensures at c.turn.ensures in
     let here : c.next.result ≡ at c.loop-i.i = c.next.ensures.here ∙ inv.2 0 ∙ ap at (omega arith) in
     let on : (k : ℕ) → g.P.Phases.at c.next.new.self k ≡ at (c.loop-i.i + 1 + k) = λ k. c.next.ensures.on k ∙ inv.2 (k + 1) ∙ ap at (omega arith) in
     (row_step inv.0 _ (omega arith) (paint_cell _ _ _ _ _ _ _ e (ap (λ (p : ℕ). get_or table p 0) here)) (paint_small _ _ _ _ e), paint_own _ _ _ _ e, on)

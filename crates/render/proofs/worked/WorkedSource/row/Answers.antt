@@ -1,15 +1,14 @@
 -- `render::worked::WorkedSource::row` meets its contract: a row begins at the phase of its first column and is carried by a.
 -- Assumes nothing.
-use Prim.Native.Nat.{ℕ, ◌<◌, ◌≤◌}
-use mathlib.Core.Path.{◌≡◌, sym, ◌∙◌}
+use mathlib.Core.Path.{sym, ◌∙◌}
 use native.Mathlib.Nat.{le_of_lt, mod-lt}
 use Rattle.arith.proofs.RemainderLaws.{remainder_times}
 use Rattle.screen.proofs.Published.{admitted_words, phase_below, steps_right}
-use Rattle.render.proofs.RefusalLaws.{place_served, place_phase}
+use Rattle.render.proofs.RefusalLaws.{served, place_free, place_phase}
 use Rattle.render.proofs.worked.WorkedSource.row.Goals as goal
 
 pub unwrap-first-requires : goal.unwrap-first-requires
-unwrap-first-requires c = place_served _ _ _ _ c.args.self.now.admitted c.requires.across c.requires.down c.phase_at.ensures.refused
+unwrap-first-requires c = served _ (c.phase_at.ensures.refused ∙ place_free _ _ _ c.args.self.now.admitted c.requires.across c.requires.down)
 
 pub invariant_of-result : goal.invariant_of-result
 invariant_of-result c =

@@ -1,7 +1,7 @@
--- `render::cells::painted` meets its contract. Assumes nothing.
+-- `render::cells::Paint::turn` meets its contract. Assumes nothing.
 use native.Mathlib.Omega.{arith}
 use Rattle.render.proofs.RowLoop.{bar_limit}
-use Rattle.render.proofs.cells.painted.Goals as goal
+use Rattle.render.proofs.cells.Paint.turn.Goals as goal
 
 pub overflow_mul-bar : goal.overflow_mul-bar
 overflow_mul-bar c =
