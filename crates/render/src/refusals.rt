@@ -55,7 +55,6 @@ pub(crate) fn check_brick(s: Screen, brick: &[u16]) -> Result<(), Refusal>
 }
 
 // Room for a number for each phase that a screen can have, all 0: a brick, or a table of thresholds.
-#[tactic(auto, unfolding(arith::specs::Run::zeros))]
 pub(crate) fn places() -> [u16; 4096]
     ensures { result ≡ zeros 4096 }
 {
