@@ -4,8 +4,8 @@
 #![tactic(auto)]
 
 use arith::Refusal;
-use std::io::Write;
-use std::{fmt, io};
+use printing::Output;
+use std::fmt;
 
 // 36 colorants, all eight among them.
 const CELLS: [u8; 36] = [
@@ -39,11 +39,11 @@ impl Call {
     }
 }
 
-fn main(rt: HostRuntime) -> io::Result<()> {
-    show_all(&mut io::writer(&rt))
+fn main() {
+    let _ = show_all(&mut Output);
 }
 
-fn show_all(out: &mut impl Write) -> io::Result<()> {
+fn show_all(out: &mut impl fmt::Write) -> fmt::Result {
     writeln!(
         out,
         "# columns rows: refusal of packing; the planes, every place 170 before; refusal of unpacking; the cells, every place 255 before"
@@ -65,7 +65,7 @@ fn show_all(out: &mut impl Write) -> io::Result<()> {
     lowest_first(out)
 }
 
-fn round_trips(out: &mut impl Write) -> io::Result<()> {
+fn round_trips(out: &mut impl fmt::Write) -> fmt::Result {
     let calls = [
         Call::new(0, 0, 0, 0),
         Call::new(0, 2, 0, 0),
@@ -89,7 +89,7 @@ fn round_trips(out: &mut impl Write) -> io::Result<()> {
 }
 
 // Refusals 5, 6 and 7 of packing: the sheet's edge, and lengths one short and one long.
-fn packing_sizes(out: &mut impl Write) -> io::Result<()> {
+fn packing_sizes(out: &mut impl fmt::Write) -> fmt::Result {
     let calls = [
         Call::new(9, 2, 18, 32),
         Call::new(9, 2, 17, 32),
@@ -111,7 +111,7 @@ fn packing_sizes(out: &mut impl Write) -> io::Result<()> {
 }
 
 // Refusal 9 of packing: bytes of 7, 8 and 255, first, last and past the last cell.
-fn packing_bytes(out: &mut impl Write) -> io::Result<()> {
+fn packing_bytes(out: &mut impl fmt::Write) -> fmt::Result {
     let mut cells = CELLS;
     cells[0] = 8;
     show_packing(out, Call::new(9, 2, 18, 32), &cells)?;
@@ -126,7 +126,7 @@ fn packing_bytes(out: &mut impl Write) -> io::Result<()> {
 }
 
 // Refusals 5, 6 and 7 of unpacking.
-fn unpacking_sizes(out: &mut impl Write) -> io::Result<()> {
+fn unpacking_sizes(out: &mut impl fmt::Write) -> fmt::Result {
     let calls = [
         Call::new(9, 1, 16, 9),
         Call::new(9, 1, 15, 9),
@@ -149,7 +149,7 @@ fn unpacking_sizes(out: &mut impl Write) -> io::Result<()> {
 
 // Refusal 9 of unpacking: rule 11.13's example; a pixel in no plane, in two, and both with as many bits as
 // pixels.
-fn pixels(out: &mut impl Write) -> io::Result<()> {
+fn pixels(out: &mut impl fmt::Write) -> fmt::Result {
     let one = Call::new(1, 1, 8, 1);
     let mut planes = PLANES;
     planes[0] = 128;
@@ -182,7 +182,7 @@ fn pixels(out: &mut impl Write) -> io::Result<()> {
 }
 
 // Refusal 9 of unpacking: padding set in the first and in the last plane, first and last padding bit.
-fn padding(out: &mut impl Write) -> io::Result<()> {
+fn padding(out: &mut impl fmt::Write) -> fmt::Result {
     let nine = Call::new(9, 1, 16, 9);
     for (place, byte) in [(1usize, 64u8), (1, 1), (15, 192), (15, 129), (7, 32)] {
         let mut planes = PLANES;
@@ -195,7 +195,7 @@ fn padding(out: &mut impl Write) -> io::Result<()> {
 }
 
 // Of several refusals the lowest number is answered.
-fn lowest_first(out: &mut impl Write) -> io::Result<()> {
+fn lowest_first(out: &mut impl fmt::Write) -> fmt::Result {
     let mut planes = PLANES;
     planes[1] = 1;
     for call in [
@@ -210,7 +210,7 @@ fn lowest_first(out: &mut impl Write) -> io::Result<()> {
 }
 
 // Packs the first cells, unpacks the planes again, and shows both memories.
-fn round_trip(out: &mut impl Write, call: Call) -> io::Result<()> {
+fn round_trip(out: &mut impl fmt::Write, call: Call) -> fmt::Result {
     let mut planes = [170u8; 52];
     let packing = number(pack_first(call, &CELLS, &mut planes));
     let mut back = [255u8; 36];
@@ -233,13 +233,13 @@ fn round_trip(out: &mut impl Write, call: Call) -> io::Result<()> {
     )
 }
 
-fn show_packing(out: &mut impl Write, call: Call, from: &[u8]) -> io::Result<()> {
+fn show_packing(out: &mut impl fmt::Write, call: Call, from: &[u8]) -> fmt::Result {
     let mut planes = [170u8; 36];
     let refusal = number(pack_first(call, from, &mut planes));
     writeln!(out, "{call}: {refusal};{}", Spaced(&planes))
 }
 
-fn show_unpacking(out: &mut impl Write, call: Call, from: &[u8]) -> io::Result<()> {
+fn show_unpacking(out: &mut impl fmt::Write, call: Call, from: &[u8]) -> fmt::Result {
     let mut back = [255u8; 12];
     let refusal = number(unpack_first(call, from, &mut back));
     writeln!(out, "{call}: {refusal};{}", Spaced(&back))

@@ -7,10 +7,10 @@
 ghost use Rattle.std.specs.Prelude.{◌<◌};
 
 use predict::{CellularError, PredictionError, Xyz};
+use printing::Output;
 use screen::Screen;
 use separation::{Inks, Separation};
-use std::io::Write;
-use std::{fmt, io};
+use std::fmt;
 
 // The values of a run: 765, which are the records of all sets, and others beyond them.
 const LENGTH: usize = 2048;
@@ -25,11 +25,11 @@ struct Runs {
     bad: [f64; LENGTH],
 }
 
-fn main(rt: HostRuntime) -> io::Result<()> {
-    show_all(&mut io::writer(&rt))
+fn main() {
+    let _ = show_all(&mut Output);
 }
 
-fn show_all(out: &mut impl Write) -> io::Result<()> {
+fn show_all(out: &mut impl fmt::Write) -> fmt::Result {
     let uneven = run_of(|place, draw| hundredths(draw, if place < 1700 { 20001 } else { 20100 }));
     let runs = Runs {
         whole: run_of(|place, _| whole_value(place / 3 % 255 + 1, place % 3)),
@@ -54,7 +54,7 @@ fn show_all(out: &mut impl Write) -> io::Result<()> {
 }
 
 // One colorant alone, of 105, 1 and 4096 cells.
-fn full_tones(out: &mut impl Write, runs: &Runs) -> io::Result<()> {
+fn full_tones(out: &mut impl fmt::Write, runs: &Runs) -> fmt::Result {
     for s in [
         listed(),
         screen_of(1, 2, 1, 1, 0),
@@ -79,7 +79,7 @@ fn full_tones(out: &mut impl Write, runs: &Runs) -> io::Result<()> {
 }
 
 // Sums that are rounded, of whole numbers and of others.
-fn uneven_sums(out: &mut impl Write, runs: &Runs) -> io::Result<()> {
+fn uneven_sums(out: &mut impl fmt::Write, runs: &Runs) -> fmt::Result {
     for s in [
         listed(),
         screen_of(1, 2, 1, 1, 0),
@@ -98,7 +98,7 @@ fn uneven_sums(out: &mut impl Write, runs: &Runs) -> io::Result<()> {
 }
 
 // Counts by the three inks in every order.
-fn orders(out: &mut impl Write, runs: &Runs) -> io::Result<()> {
+fn orders(out: &mut impl fmt::Write, runs: &Runs) -> fmt::Result {
     for inks in [
         inks_of(40, 99, 211),
         inks_of(40, 211, 99),
@@ -113,7 +113,7 @@ fn orders(out: &mut impl Write, runs: &Runs) -> io::Result<()> {
 }
 
 // Two to eight equal counts.
-fn ties(out: &mut impl Write, runs: &Runs) -> io::Result<()> {
+fn ties(out: &mut impl fmt::Write, runs: &Runs) -> fmt::Result {
     for s in [screen_of(4, 7, 8, 1, 0), screen_of(4, 7, 24, 4, 3)] {
         for inks in [
             inks_of(128, 128, 128),
@@ -128,7 +128,7 @@ fn ties(out: &mut impl Write, runs: &Runs) -> io::Result<()> {
 
 // Values beside the limits and far from them, at the first and at the last colorant, in a set with weight and
 // in one without.
-fn limits(out: &mut impl Write, runs: &Runs) -> io::Result<()> {
+fn limits(out: &mut impl fmt::Write, runs: &Runs) -> fmt::Result {
     for (name, v) in [
         ("200", 200.0),
         ("199.99999999999997", 199.99999999999997),
@@ -164,7 +164,7 @@ fn limits(out: &mut impl Write, runs: &Runs) -> io::Result<()> {
 }
 
 // A bad Y at each colorant, that of the last being bad too.
-fn places(out: &mut impl Write) -> io::Result<()> {
+fn places(out: &mut impl fmt::Write) -> fmt::Result {
     let call = Call {
         name: "nan",
         s: listed(),
@@ -185,7 +185,7 @@ fn places(out: &mut impl Write) -> io::Result<()> {
 }
 
 // A bad value in the first, the last and other sets, the last place of all being bad too.
-fn set_places(out: &mut impl Write, runs: &Runs) -> io::Result<()> {
+fn set_places(out: &mut impl fmt::Write, runs: &Runs) -> fmt::Result {
     let run = with_value(&runs.uneven, 764, -1.0);
     let call = Call {
         name: "nan",
@@ -203,7 +203,7 @@ fn set_places(out: &mut impl Write, runs: &Runs) -> io::Result<()> {
 }
 
 // Lengths beside the right one, and others; and bad screens.
-fn refusals(out: &mut impl Write, runs: &Runs) -> io::Result<()> {
+fn refusals(out: &mut impl fmt::Write, runs: &Runs) -> fmt::Result {
     for (name, run) in [("uneven", &runs.uneven), ("set 1 x = -1", &runs.bad)] {
         for length in [0, 1, 24, 762, 764, 765, 766, 768] {
             show_length(out, name, listed(), run, length)?;
@@ -214,7 +214,7 @@ fn refusals(out: &mut impl Write, runs: &Runs) -> io::Result<()> {
 
 // Refusals 1 to 4, at their limits, with good primaries and with a bad one, and with runs of right and of
 // wrong length.
-fn bad_screens(out: &mut impl Write, runs: &Runs) -> io::Result<()> {
+fn bad_screens(out: &mut impl fmt::Write, runs: &Runs) -> fmt::Result {
     for s in [
         screen_of(4, 8, 105, 2, 0),
         screen_of(0, 7, 105, 2, 0),
@@ -234,7 +234,7 @@ fn bad_screens(out: &mut impl Write, runs: &Runs) -> io::Result<()> {
     Ok(())
 }
 
-fn refused(out: &mut impl Write, s: Screen, runs: &Runs) -> io::Result<()> {
+fn refused(out: &mut impl fmt::Write, s: Screen, runs: &Runs) -> fmt::Result {
     let inks = inks_of(255, 0, 0);
     show_both(out, "whole", s, inks, whole())?;
     write!(out, "0 x = ")?;
@@ -252,7 +252,7 @@ fn refused(out: &mut impl Write, s: Screen, runs: &Runs) -> io::Result<()> {
 }
 
 // Refusal 15 of each stored number, in the same calls; and 3 before it.
-fn stored(out: &mut impl Write, runs: &Runs) -> io::Result<()> {
+fn stored(out: &mut impl fmt::Write, runs: &Runs) -> fmt::Result {
     for (k, columns, rows, shift) in [
         (2, 106, 1, 77),
         (2, 105, 2, 77),
@@ -277,14 +277,14 @@ fn stored(out: &mut impl Write, runs: &Runs) -> io::Result<()> {
 
 // Screens, ink values and primaries that are drawn one from the other, from each start, and from every
 // second one records that begin at a drawn place.
-fn mixed(out: &mut impl Write, runs: &Runs) -> io::Result<()> {
+fn mixed(out: &mut impl fmt::Write, runs: &Runs) -> fmt::Result {
     for start in 0..80 {
         mixed_case(out, start, runs)?;
     }
     Ok(())
 }
 
-fn mixed_case(out: &mut impl Write, start: u32, runs: &Runs) -> io::Result<()> {
+fn mixed_case(out: &mut impl fmt::Write, start: u32, runs: &Runs) -> fmt::Result {
     let a = next(start);
     let b = next(a);
     let n = next(b);
@@ -440,24 +440,24 @@ fn inks_of(c: u8, m: u8, y: u8) -> Inks {
     Inks { c, m, y }
 }
 
-fn show_whole(out: &mut impl Write, s: Screen, inks: Inks, runs: &Runs) -> io::Result<()> {
+fn show_whole(out: &mut impl fmt::Write, s: Screen, inks: Inks, runs: &Runs) -> fmt::Result {
     show_both(out, "whole", s, inks, whole())?;
     show_sets_of_both(out, "whole", s, inks, &runs.whole)
 }
 
-fn show_uneven(out: &mut impl Write, s: Screen, inks: Inks, runs: &Runs) -> io::Result<()> {
+fn show_uneven(out: &mut impl fmt::Write, s: Screen, inks: Inks, runs: &Runs) -> fmt::Result {
     show_both(out, "uneven", s, inks, uneven())?;
     show_sets_of_both(out, "uneven", s, inks, &runs.uneven)
 }
 
 // By both separations: primaries, and the sets of a run from its first place or from another on.
 fn show_both(
-    out: &mut impl Write,
+    out: &mut impl fmt::Write,
     name: &str,
     s: Screen,
     inks: Inks,
     ps: [Xyz; 8],
-) -> io::Result<()> {
+) -> fmt::Result {
     for sep in [Separation::Demichel, Separation::Kueppers] {
         Call { name, s, sep, inks }.show(out, ps)?;
     }
@@ -465,23 +465,23 @@ fn show_both(
 }
 
 fn show_sets_of_both(
-    out: &mut impl Write,
+    out: &mut impl fmt::Write,
     name: &str,
     s: Screen,
     inks: Inks,
     run: &[f64],
-) -> io::Result<()> {
+) -> fmt::Result {
     show_parts_of_both(out, name, s, inks, run, 0)
 }
 
 fn show_parts_of_both(
-    out: &mut impl Write,
+    out: &mut impl fmt::Write,
     name: &str,
     s: Screen,
     inks: Inks,
     run: &[f64],
     from: usize,
-) -> io::Result<()> {
+) -> fmt::Result {
     for sep in [Separation::Demichel, Separation::Kueppers] {
         Call { name, s, sep, inks }.show_sets(out, run, from, 765)?;
     }
@@ -490,12 +490,12 @@ fn show_parts_of_both(
 
 // So many values of a run.
 fn show_length(
-    out: &mut impl Write,
+    out: &mut impl fmt::Write,
     name: &str,
     s: Screen,
     run: &[f64],
     length: usize,
-) -> io::Result<()> {
+) -> fmt::Result {
     write!(out, "length {length}, ")?;
     let call = Call {
         name,
@@ -516,7 +516,7 @@ struct Call<'a> {
 }
 
 impl Call<'_> {
-    fn show(&self, out: &mut impl Write, ps: [Xyz; 8]) -> io::Result<()> {
+    fn show(&self, out: &mut impl fmt::Write, ps: [Xyz; 8]) -> fmt::Result {
         let answer = Plain(predict::predict(self.s, self.sep, self.inks, ps));
         writeln!(out, "{self}: {answer}")
     }
@@ -524,11 +524,11 @@ impl Call<'_> {
     // Lends so many places of a run, from one on, where it has them.
     fn show_sets(
         &self,
-        out: &mut impl Write,
+        out: &mut impl fmt::Write,
         run: &[f64],
         from: usize,
         length: usize,
-    ) -> io::Result<()> {
+    ) -> fmt::Result {
         let Some(sets) = run.get(from..).and_then(|rest| rest.get(..length)) else {
             return Ok(());
         };

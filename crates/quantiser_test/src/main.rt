@@ -7,10 +7,10 @@
 ghost use Rattle.std.specs.Prelude.{◌<◌};
 
 use arith::Refusal;
+use printing::Output;
 use screen::Screen;
 use separation::{Inks, Separation};
-use std::io::Write;
-use std::{fmt, io};
+use std::fmt;
 
 // Both separations.
 const BOTH: [Separation; 2] = [Separation::Demichel, Separation::Kueppers];
@@ -23,11 +23,11 @@ struct Case {
     inks: Inks,
 }
 
-fn main(rt: HostRuntime) -> io::Result<()> {
-    show_all(&mut io::writer(&rt))
+fn main() {
+    let _ = show_all(&mut Output);
 }
 
-fn show_all(out: &mut impl Write) -> io::Result<()> {
+fn show_all(out: &mut impl fmt::Write) -> fmt::Result {
     writeln!(
         out,
         "# c m y: scale, weights by Demichel; scale, weights by Kueppers"
@@ -73,7 +73,7 @@ fn show_all(out: &mut impl Write) -> io::Result<()> {
 }
 
 // Every ink empty or full.
-fn corners(out: &mut impl Write) -> io::Result<()> {
+fn corners(out: &mut impl fmt::Write) -> fmt::Result {
     for c in [0, 255] {
         for m in [0, 255] {
             for y in [0, 255] {
@@ -85,7 +85,7 @@ fn corners(out: &mut impl Write) -> io::Result<()> {
 }
 
 // All three values equal, and two of them, the third below and above.
-fn equal_values(out: &mut impl Write) -> io::Result<()> {
+fn equal_values(out: &mut impl fmt::Write) -> fmt::Result {
     for v in [1, 127, 128, 254] {
         show_weights(out, inks_of(v, v, v))?;
     }
@@ -98,7 +98,7 @@ fn equal_values(out: &mut impl Write) -> io::Result<()> {
 }
 
 // Three values in each of their six orders.
-fn orders(out: &mut impl Write) -> io::Result<()> {
+fn orders(out: &mut impl fmt::Write) -> fmt::Result {
     show_weights(out, inks_of(51, 102, 204))?;
     show_weights(out, inks_of(51, 204, 102))?;
     show_weights(out, inks_of(102, 51, 204))?;
@@ -107,7 +107,7 @@ fn orders(out: &mut impl Write) -> io::Result<()> {
     show_weights(out, inks_of(204, 102, 51))
 }
 
-fn mixed_values(out: &mut impl Write) -> io::Result<()> {
+fn mixed_values(out: &mut impl fmt::Write) -> fmt::Result {
     show_weights(out, inks_of(128, 128, 0))?;
     show_weights(out, inks_of(0, 1, 255))?;
     show_weights(out, inks_of(254, 255, 0))?;
@@ -118,7 +118,7 @@ fn mixed_values(out: &mut impl Write) -> io::Result<()> {
 }
 
 // The counts of rules 12.3, 12.5 and 12.6; those of one colorant alone, and halves beside 1 cell.
-fn marks(out: &mut impl Write) -> io::Result<()> {
+fn marks(out: &mut impl fmt::Write) -> fmt::Result {
     let listed = screen_of(4, 7, 105, 2, 0);
     show_both(out, listed, inks_of(128, 128, 0))?;
     show_both(out, listed, inks_of(255, 0, 0))?;
@@ -129,7 +129,7 @@ fn marks(out: &mut impl Write) -> io::Result<()> {
 }
 
 // n of 1, 2 and 4096; k of 1 and 16, and k equal to n.
-fn cells_and_subscreens(out: &mut impl Write) -> io::Result<()> {
+fn cells_and_subscreens(out: &mut impl fmt::Write) -> fmt::Result {
     show_both(out, screen_of(1, 2, 1, 1, 0), inks_of(100, 150, 200))?;
     show_both(out, screen_of(1, 2, 2, 2, 1), inks_of(100, 150, 200))?;
     show_both(out, screen_of(4, 7, 5, 5, 4), inks_of(200, 150, 100))?;
@@ -144,7 +144,7 @@ fn cells_and_subscreens(out: &mut impl Write) -> io::Result<()> {
 }
 
 // Refusals 1 to 4, at their limits, and the lowest of several.
-fn refused(out: &mut impl Write) -> io::Result<()> {
+fn refused(out: &mut impl fmt::Write) -> fmt::Result {
     let screens = [
         screen_of(4, 8, 105, 2, 0),
         screen_of(0, 7, 105, 2, 0),
@@ -167,7 +167,7 @@ fn refused(out: &mut impl Write) -> io::Result<()> {
 }
 
 // Refusal 15: each stored number wrong by itself, and all of them; and 3, which comes first.
-fn stored_counts(out: &mut impl Write) -> io::Result<()> {
+fn stored_counts(out: &mut impl fmt::Write) -> fmt::Result {
     let listed = screen_of(4, 7, 105, 2, 0);
     let screens = [
         storing(listed, 105, 1, 77),
@@ -185,7 +185,7 @@ fn stored_counts(out: &mut impl Write) -> io::Result<()> {
 }
 
 // An admitted screen, one that 1 refuses, and those of no cells, of the most cells and of wrong numbers.
-fn untested(out: &mut impl Write) -> io::Result<()> {
+fn untested(out: &mut impl fmt::Write) -> fmt::Result {
     show_counted(out, screen_of(4, 7, 105, 2, 0))?;
     show_counted(out, screen_of(4, 8, 20, 3, 0))?;
     show_counted(out, screen_of(4, 7, 0, 2, 0))?;
@@ -195,7 +195,7 @@ fn untested(out: &mut impl Write) -> io::Result<()> {
     show_counted(out, false_shift)
 }
 
-fn show_counted(out: &mut impl Write, s: Screen) -> io::Result<()> {
+fn show_counted(out: &mut impl fmt::Write, s: Screen) -> fmt::Result {
     let inks = inks_of(51, 102, 204);
     for sep in BOTH {
         let case = Case { s, sep, inks };
@@ -205,7 +205,7 @@ fn show_counted(out: &mut impl Write, s: Screen) -> io::Result<()> {
 }
 
 // Tables of n - 1, n and n + 1 places, of none, and of n places for refused screens.
-fn tables(out: &mut impl Write) -> io::Result<()> {
+fn tables(out: &mut impl fmt::Write) -> fmt::Result {
     let s = screen_of(4, 7, 20, 3, 0);
     for places in [24, 21, 20, 19, 0] {
         show_table(out, s, places)?;
@@ -223,7 +223,7 @@ fn tables(out: &mut impl Write) -> io::Result<()> {
 }
 
 // Refusal 15 before 8, and 4 before it.
-fn stored_tables(out: &mut impl Write) -> io::Result<()> {
+fn stored_tables(out: &mut impl fmt::Write) -> fmt::Result {
     let s = screen_of(4, 7, 20, 3, 0);
     let cases = [
         (storing(s, 5, 4, 3), 20),
@@ -239,7 +239,7 @@ fn stored_tables(out: &mut impl Write) -> io::Result<()> {
 }
 
 // k of 3, 1 and 16, k equal to n, one cell; then screens that 1 and 15 refuse.
-fn lone_thresholds(out: &mut impl Write) -> io::Result<()> {
+fn lone_thresholds(out: &mut impl fmt::Write) -> fmt::Result {
     show_lone(out, screen_of(4, 7, 20, 3, 0))?;
     show_lone(out, screen_of(4, 7, 20, 1, 19))?;
     show_lone(out, screen_of(4, 7, 20, 16, 0))?;
@@ -251,7 +251,7 @@ fn lone_thresholds(out: &mut impl Write) -> io::Result<()> {
     show_lone(out, false_shift)
 }
 
-fn show_lone(out: &mut impl Write, s: Screen) -> io::Result<()> {
+fn show_lone(out: &mut impl fmt::Write, s: Screen) -> fmt::Result {
     write!(out, "{}:", Numbers(s))?;
     for phase in 0..22 {
         write!(out, " {}", quantiser::threshold(s, phase))?;
@@ -260,7 +260,7 @@ fn show_lone(out: &mut impl Write, s: Screen) -> io::Result<()> {
 }
 
 // Where each colorant stands: the screens of rules 12.1 to 12.6, k equal to n, and k of 16.
-fn phases(out: &mut impl Write) -> io::Result<()> {
+fn phases(out: &mut impl fmt::Write) -> fmt::Result {
     show_phases(out, screen_of(4, 7, 105, 2, 0), inks_of(128, 128, 0))?;
     show_phases(out, screen_of(4, 7, 70, 3, 0), inks_of(51, 102, 204))?;
     show_phases(out, screen_of(4, 7, 16, 16, 0), inks_of(30, 120, 220))?;
@@ -272,7 +272,7 @@ fn phases(out: &mut impl Write) -> io::Result<()> {
 }
 
 // Bars beside levels, which no screen's thresholds meet, and above them all.
-fn bars(out: &mut impl Write) -> io::Result<()> {
+fn bars(out: &mut impl fmt::Write) -> fmt::Result {
     let levels = [10, 20, 20, 30, 40, 50, 60, 70];
     for bar in [0, 10, 11, 20, 21, 60, 61, 71, u64::MAX] {
         writeln!(out, "{bar}: {}", quantiser::colorant_of(levels, bar))?;
@@ -295,7 +295,7 @@ impl Draws {
 }
 
 // Screens and ink values, drawn one from the other, with cells and offsets below two limits.
-fn mixed(out: &mut impl Write, cases: u32, start: u32, cells: u32, offsets: u32) -> io::Result<()>
+fn mixed(out: &mut impl fmt::Write, cases: u32, start: u32, cells: u32, offsets: u32) -> fmt::Result
     requires { (0 < cells) × (0 < offsets) }
 {
     let mut draws = Draws { last: start };
@@ -341,7 +341,7 @@ fn inks_of(c: u8, m: u8, y: u8) -> Inks {
     Inks { c, m, y }
 }
 
-fn show_weights(out: &mut impl Write, inks: Inks) -> io::Result<()> {
+fn show_weights(out: &mut impl fmt::Write, inks: Inks) -> fmt::Result {
     let [demichel, kueppers] = BOTH;
     let Inks { c, m, y } = inks;
     writeln!(
@@ -354,7 +354,7 @@ fn show_weights(out: &mut impl Write, inks: Inks) -> io::Result<()> {
     )
 }
 
-fn show_both(out: &mut impl Write, s: Screen, inks: Inks) -> io::Result<()> {
+fn show_both(out: &mut impl fmt::Write, s: Screen, inks: Inks) -> fmt::Result {
     for sep in BOTH {
         let case = Case { s, sep, inks };
         let counts = quantiser::counts(s, sep, inks);
@@ -369,7 +369,7 @@ fn show_both(out: &mut impl Write, s: Screen, inks: Inks) -> io::Result<()> {
 }
 
 // Lends the first places of a table of 24, and shows the whole table, what was not lent included.
-fn show_table(out: &mut impl Write, s: Screen, places: usize) -> io::Result<()> {
+fn show_table(out: &mut impl fmt::Write, s: Screen, places: usize) -> fmt::Result {
     let mut table = [65535u16; 24];
     let lent = places.min(table.len());
     let refusal = number(quantiser::thresholds(s, &mut table[..lent]));
@@ -381,7 +381,7 @@ fn show_table(out: &mut impl Write, s: Screen, places: usize) -> io::Result<()> 
     )
 }
 
-fn show_phases(out: &mut impl Write, s: Screen, inks: Inks) -> io::Result<()> {
+fn show_phases(out: &mut impl fmt::Write, s: Screen, inks: Inks) -> fmt::Result {
     let mut table = [0u16; 105];
     let _ = quantiser::thresholds(s, &mut table);
     for sep in BOTH {
@@ -407,7 +407,7 @@ fn bar_of(sep: Separation, threshold: u16) -> u64 {
 }
 
 // The heading of what is shown of a screen that stores these numbers.
-fn show_stored(out: &mut impl Write, s: Screen) -> io::Result<()> {
+fn show_stored(out: &mut impl fmt::Write, s: Screen) -> fmt::Result {
     writeln!(out, "# stored {} {} {}", s.columns, s.rows, s.shift)
 }
 

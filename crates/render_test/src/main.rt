@@ -6,10 +6,11 @@
 ghost use Rattle.std.specs.Prelude.{◌<◌};
 
 use arith::Refusal;
+use printing::Output;
 use render::Window;
 use screen::Screen;
 use separation::{Inks, Separation};
-use std::io;
+use std::fmt;
 
 // The ink values of the first pixel; each later pixel has those before it times `by`, modulo 256.
 #[derive(Clone, Copy)]
@@ -38,90 +39,116 @@ struct Case {
     lent: Lent,
 }
 
-fn main(rt: HostRuntime) -> io::Result<()> {
-    println!(rt;
+fn main() {
+    let _ = show_all(&mut Output);
+}
+
+fn show_all(page: &mut impl fmt::Write) -> fmt::Result {
+    writeln!(
+        page,
         "# a b n k g, separation, x y columns rows, c m y by, lent input output brick, wrong place:"
     )?;
-    println!(rt; "# phases worked out, then read: refusal; tallies; output, every byte 9 before")?;
-    patches(&rt)?;
-    own_values(&rt)?;
-    one_value(&rt)?;
-    screens_refused(&rt)?;
-    edges(&rt)?;
-    lengths(&rt)?;
-    bricks(&rt)?;
-    lowest_first(&rt)?;
-    empty(&rt)?;
-    last_places(&rt)?;
-    mixed(&rt)?;
-    stored_windows(&rt)?;
-    println!(rt; "# a b n k g, x y, c m y: refusal and colorant by Demichel, by Kueppers")?;
-    lone_places(&rt)?;
-    stored_places(&rt)
+    writeln!(
+        page,
+        "# phases worked out, then read: refusal; tallies; output, every byte 9 before"
+    )?;
+    patches(page)?;
+    own_values(page)?;
+    one_value(page)?;
+    screens_refused(page)?;
+    edges(page)?;
+    lengths(page)?;
+    bricks(page)?;
+    lowest_first(page)?;
+    empty(page)?;
+    last_places(page)?;
+    mixed(page)?;
+    stored_windows(page)?;
+    writeln!(
+        page,
+        "# a b n k g, x y, c m y: refusal and colorant by Demichel, by Kueppers"
+    )?;
+    lone_places(page)?;
+    stored_places(page)
 }
 
 // The screens of rules 12.1 to 12.6 and small ones, in one colour on whole bricks; and no ink.
-fn patches(rt: &impl Print) -> io::Result<()> {
+fn patches(page: &mut impl fmt::Write) -> fmt::Result {
     let blue = values_of(128, 128, 0, 1);
     let olive = values_of(51, 102, 204, 1);
     let none = values_of(0, 0, 0, 1);
     show_both(
-        rt,
+        page,
         screen_of(4, 7, 105, 2, 0),
         window_of(0, 0, 105, 1),
         blue,
     )?;
-    show_both(rt, screen_of(4, 7, 70, 2, 0), window_of(0, 0, 35, 2), olive)?;
     show_both(
-        rt,
+        page,
+        screen_of(4, 7, 70, 2, 0),
+        window_of(0, 0, 35, 2),
+        olive,
+    )?;
+    show_both(
+        page,
         screen_of(4, 7, 70, 3, 69),
         window_of(17, 23, 35, 2),
         olive,
     )?;
-    show_both(rt, screen_of(4, 7, 20, 3, 6), window_of(3, 2, 10, 8), olive)?;
-    show_both(rt, screen_of(1, 2, 1, 1, 0), window_of(5, 6, 3, 2), blue)?;
-    show_both(rt, usual(), window_of(5, 6, 3, 2), none)
+    show_both(
+        page,
+        screen_of(4, 7, 20, 3, 6),
+        window_of(3, 2, 10, 8),
+        olive,
+    )?;
+    show_both(page, screen_of(1, 2, 1, 1, 0), window_of(5, 6, 3, 2), blue)?;
+    show_both(page, usual(), window_of(5, 6, 3, 2), none)
 }
 
 // Each pixel in its own colour, from corners that are not a brick's.
-fn own_values(rt: &impl Print) -> io::Result<()> {
+fn own_values(page: &mut impl fmt::Write) -> fmt::Result {
     let values = values_of(13, 77, 251, 77);
     show_both(
-        rt,
+        page,
         screen_of(4, 7, 70, 2, 3),
         window_of(101, 60001, 13, 8),
         values,
     )?;
     show_both(
-        rt,
+        page,
         screen_of(4, 7, 105, 16, 104),
         window_of(7, 1, 9, 11),
         values,
     )?;
     show_both(
-        rt,
+        page,
         screen_of(60, 61, 48, 5, 17),
         window_of(1, 50, 5, 20),
         values,
     )?;
-    show_both(rt, screen_of(4, 7, 3, 2, 1), window_of(1, 1, 8, 3), values)
+    show_both(
+        page,
+        screen_of(4, 7, 3, 2, 1),
+        window_of(1, 1, 8, 3),
+        values,
+    )
 }
 
 // One ink value changes from pixel to pixel: 128 times an odd number stays 128.
-fn one_value(rt: &impl Print) -> io::Result<()> {
+fn one_value(page: &mut impl fmt::Write) -> fmt::Result {
     let w = window_of(3, 4, 7, 3);
     for (c, m, y) in [(13, 128, 128), (128, 13, 128), (128, 128, 13)] {
         let case = Case {
             values: values_of(c, m, y, 77),
             ..case_of(usual(), w)
         };
-        show_case(rt, case)?;
+        show_case(page, case)?;
     }
     Ok(())
 }
 
 // Refusals 1 to 4, each after a screen that is admitted. The brick lent is too short for 4096 cells.
-fn screens_refused(rt: &impl Print) -> io::Result<()> {
+fn screens_refused(page: &mut impl fmt::Write) -> fmt::Result {
     for (a, b, n, k, g) in [
         (7, 8, 70, 2, 0),
         (4, 8, 70, 2, 0),
@@ -135,13 +162,16 @@ fn screens_refused(rt: &impl Print) -> io::Result<()> {
         (4, 7, 70, 17, 69),
         (4, 7, 70, 2, 70),
     ] {
-        show_case(rt, case_of(screen_of(a, b, n, k, g), window_of(8, 9, 3, 2)))?;
+        show_case(
+            page,
+            case_of(screen_of(a, b, n, k, g), window_of(8, 9, 3, 2)),
+        )?;
     }
     Ok(())
 }
 
 // Refusal 5: columns and rows at the sheet's edge.
-fn edges(rt: &impl Print) -> io::Result<()> {
+fn edges(page: &mut impl fmt::Write) -> fmt::Result {
     for (x, y) in [
         (65530, 9),
         (65531, 9),
@@ -150,19 +180,19 @@ fn edges(rt: &impl Print) -> io::Result<()> {
         (4294967295, 9),
         (9, 4294967295),
     ] {
-        show_window(rt, window_of(x, y, 6, 2))?;
+        show_window(page, window_of(x, y, 6, 2))?;
     }
     Ok(())
 }
 
 // Refusals 6 and 7: 3 by 2 pixels with a byte too few or too many, and more cells than 32 bits can count.
-fn lengths(rt: &impl Print) -> io::Result<()> {
+fn lengths(page: &mut impl fmt::Write) -> fmt::Result {
     let w = window_of(8, 9, 3, 2);
     for (input, out) in [(18, 6), (17, 6), (19, 6), (18, 5), (18, 7), (18, 0)] {
-        show_lent(rt, usual(), w, lent_of(input, out, 106, None))?;
+        show_lent(page, usual(), w, lent_of(input, out, 106, None))?;
     }
     show_lent(
-        rt,
+        page,
         usual(),
         window_of(0, 0, 65536, 65536),
         lent_of(0, 0, 106, None),
@@ -170,7 +200,7 @@ fn lengths(rt: &impl Print) -> io::Result<()> {
 }
 
 // Refusal 8: bricks of n - 1, n and n + 1 places, and one number wrong, within n and behind.
-fn bricks(rt: &impl Print) -> io::Result<()> {
+fn bricks(page: &mut impl fmt::Write) -> fmt::Result {
     for (columns, rows, brick, wrong) in [
         (3, 2, 70, None),
         (3, 2, 71, None),
@@ -189,30 +219,30 @@ fn bricks(rt: &impl Print) -> io::Result<()> {
             wrong,
             ..lent_for(w)
         };
-        show_lent(rt, usual(), w, lent)?;
+        show_lent(page, usual(), w, lent)?;
     }
     Ok(())
 }
 
 // Of several refusals the lowest number is answered.
-fn lowest_first(rt: &impl Print) -> io::Result<()> {
+fn lowest_first(page: &mut impl fmt::Write) -> fmt::Result {
     let s = usual();
     let off = window_of(65536, 9, 3, 2);
     let on = window_of(8, 9, 3, 2);
     show_lent(
-        rt,
+        page,
         screen_of(4, 7, 70, 2, 70),
         off,
         lent_of(17, 5, 69, None),
     )?;
-    show_lent(rt, s, off, lent_of(17, 6, 70, None))?;
-    show_lent(rt, s, on, lent_of(17, 5, 70, None))?;
-    show_lent(rt, s, on, lent_of(18, 5, 69, None))?;
-    show_lent(rt, s, on, lent_of(17, 6, 70, Some(0)))
+    show_lent(page, s, off, lent_of(17, 6, 70, None))?;
+    show_lent(page, s, on, lent_of(17, 5, 70, None))?;
+    show_lent(page, s, on, lent_of(18, 5, 69, None))?;
+    show_lent(page, s, on, lent_of(17, 6, 70, Some(0)))
 }
 
 // No columns, no rows, neither; beside the sheet and beyond it.
-fn empty(rt: &impl Print) -> io::Result<()> {
+fn empty(page: &mut impl fmt::Write) -> fmt::Result {
     for (x, y, columns, rows) in [
         (8, 9, 0, 2),
         (8, 9, 3, 0),
@@ -225,20 +255,20 @@ fn empty(rt: &impl Print) -> io::Result<()> {
         (0, 0, 65536, 0),
         (0, 0, 0, 65537),
     ] {
-        show_window(rt, window_of(x, y, columns, rows))?;
+        show_window(page, window_of(x, y, columns, rows))?;
     }
     Ok(())
 }
 
 // The last column, the last row and the last place of the sheet.
-fn last_places(rt: &impl Print) -> io::Result<()> {
-    show_window(rt, window_of(65535, 0, 1, 4))?;
-    show_window(rt, window_of(0, 65535, 4, 1))?;
-    show_window(rt, window_of(65535, 65535, 1, 1))?;
-    show_window(rt, window_of(65500, 65535, 36, 1))
+fn last_places(page: &mut impl fmt::Write) -> fmt::Result {
+    show_window(page, window_of(65535, 0, 1, 4))?;
+    show_window(page, window_of(0, 65535, 4, 1))?;
+    show_window(page, window_of(65535, 65535, 1, 1))?;
+    show_window(page, window_of(65500, 65535, 36, 1))
 }
 
-fn lone_places(rt: &impl Print) -> io::Result<()> {
+fn lone_places(page: &mut impl fmt::Write) -> fmt::Result {
     let s = screen_of(4, 7, 105, 2, 0);
     let inks = inks_of(128, 128, 0);
     for (x, y) in [
@@ -252,68 +282,68 @@ fn lone_places(rt: &impl Print) -> io::Result<()> {
         (0, 65536),
         (4294967295, 4294967295),
     ] {
-        show_cell(rt, s, x, y, inks)?;
+        show_cell(page, s, x, y, inks)?;
     }
     let small = screen_of(1, 2, 1, 1, 0);
-    show_cell(rt, small, 9, 9, inks_of(128, 0, 0))?;
-    show_cell(rt, small, 9, 9, inks_of(127, 0, 0))?;
+    show_cell(page, small, 9, 9, inks_of(128, 0, 0))?;
+    show_cell(page, small, 9, 9, inks_of(127, 0, 0))?;
     let large = screen_of(63, 64, 4096, 16, 4095);
-    show_cell(rt, large, 65535, 65535, inks_of(13, 77, 250))?;
-    show_cell(rt, screen_of(4, 8, 105, 2, 0), 65536, 0, inks)?;
-    show_cell(rt, screen_of(4, 7, 0, 1, 0), 3, 2, inks)?;
-    show_cell(rt, screen_of(4, 7, 5, 6, 0), 3, 2, inks)?;
-    show_cell(rt, screen_of(4, 7, 70, 2, 70), 3, 2, inks)
+    show_cell(page, large, 65535, 65535, inks_of(13, 77, 250))?;
+    show_cell(page, screen_of(4, 8, 105, 2, 0), 65536, 0, inks)?;
+    show_cell(page, screen_of(4, 7, 0, 1, 0), 3, 2, inks)?;
+    show_cell(page, screen_of(4, 7, 5, 6, 0), 3, 2, inks)?;
+    show_cell(page, screen_of(4, 7, 70, 2, 70), 3, 2, inks)
 }
 
 // Refusal 15 of each stored number, before 5, 6, 7 and 8, which meet in the last windows; and 4 before it.
-fn stored_windows(rt: &impl Print) -> io::Result<()> {
+fn stored_windows(page: &mut impl fmt::Write) -> fmt::Result {
     let s = usual();
     let on = window_of(8, 9, 3, 2);
     let lent = lent_for(on);
     let shifted = Screen { shift: 49, ..s };
-    show_storing(rt, s, on, lent)?;
-    show_storing(rt, Screen { columns: 36, ..s }, on, lent)?;
-    show_storing(rt, Screen { rows: 1, ..s }, on, lent)?;
-    show_storing(rt, shifted, on, lent)?;
-    show_storing(rt, Screen { g: 70, ..shifted }, on, lent)?;
-    show_storing(rt, shifted, on, lent_of(17, 6, 70, None))?;
-    show_storing(rt, shifted, on, lent_of(18, 5, 70, None))?;
-    show_storing(rt, shifted, on, lent_of(18, 6, 69, None))?;
+    show_storing(page, s, on, lent)?;
+    show_storing(page, Screen { columns: 36, ..s }, on, lent)?;
+    show_storing(page, Screen { rows: 1, ..s }, on, lent)?;
+    show_storing(page, shifted, on, lent)?;
+    show_storing(page, Screen { g: 70, ..shifted }, on, lent)?;
+    show_storing(page, shifted, on, lent_of(17, 6, 70, None))?;
+    show_storing(page, shifted, on, lent_of(18, 5, 70, None))?;
+    show_storing(page, shifted, on, lent_of(18, 6, 69, None))?;
     show_storing(
-        rt,
+        page,
         shifted,
         window_of(65536, 9, 3, 2),
         lent_of(17, 5, 69, None),
     )
 }
 
-fn show_storing(rt: &impl Print, s: Screen, w: Window, lent: Lent) -> io::Result<()> {
-    show_stored(rt, s)?;
-    show_lent(rt, s, w, lent)
+fn show_storing(page: &mut impl fmt::Write, s: Screen, w: Window, lent: Lent) -> fmt::Result {
+    show_stored(page, s)?;
+    show_lent(page, s, w, lent)
 }
 
 // Refusal 15 before 5, and 4 before it.
-fn stored_places(rt: &impl Print) -> io::Result<()> {
+fn stored_places(page: &mut impl fmt::Write) -> fmt::Result {
     let s = screen_of(4, 7, 105, 2, 0);
     let shifted = Screen { shift: 76, ..s };
-    show_cell_storing(rt, s, 3, 2)?;
-    show_cell_storing(rt, shifted, 3, 2)?;
-    show_cell_storing(rt, shifted, 65536, 0)?;
-    show_cell_storing(rt, Screen { g: 105, ..shifted }, 65536, 0)
+    show_cell_storing(page, s, 3, 2)?;
+    show_cell_storing(page, shifted, 3, 2)?;
+    show_cell_storing(page, shifted, 65536, 0)?;
+    show_cell_storing(page, Screen { g: 105, ..shifted }, 65536, 0)
 }
 
-fn show_cell_storing(rt: &impl Print, s: Screen, x: u32, y: u32) -> io::Result<()> {
-    show_stored(rt, s)?;
-    show_cell(rt, s, x, y, inks_of(128, 128, 0))
+fn show_cell_storing(page: &mut impl fmt::Write, s: Screen, x: u32, y: u32) -> fmt::Result {
+    show_stored(page, s)?;
+    show_cell(page, s, x, y, inks_of(128, 128, 0))
 }
 
 // Screens, windows and ink values, drawn one from the other.
-fn mixed(rt: &impl Print) -> io::Result<()> {
+fn mixed(page: &mut impl fmt::Write) -> fmt::Result {
     let mut drawn = Drawn { last: 1 };
     for _ in 0..5u8 {
         let s = mixed_screen(&mut drawn);
         let w = mixed_window(&mut drawn);
-        show_both(rt, s, w, mixed_values(drawn.next()))?;
+        show_both(page, s, w, mixed_values(drawn.next()))?;
     }
     Ok(())
 }
@@ -426,38 +456,38 @@ fn usual() -> Screen {
 }
 
 // Both separations of a window.
-fn show_both(rt: &impl Print, s: Screen, w: Window, values: Values) -> io::Result<()> {
+fn show_both(page: &mut impl fmt::Write, s: Screen, w: Window, values: Values) -> fmt::Result {
     for sep in [Separation::Demichel, Separation::Kueppers] {
         let case = Case {
             sep,
             values,
             ..case_of(s, w)
         };
-        show_case(rt, case)?;
+        show_case(page, case)?;
     }
     Ok(())
 }
 
 // A window on the usual screen.
-fn show_window(rt: &impl Print, w: Window) -> io::Result<()> {
-    show_case(rt, case_of(usual(), w))
+fn show_window(page: &mut impl fmt::Write, w: Window) -> fmt::Result {
+    show_case(page, case_of(usual(), w))
 }
 
 // A window with so much lent.
-fn show_lent(rt: &impl Print, s: Screen, w: Window, lent: Lent) -> io::Result<()> {
+fn show_lent(page: &mut impl fmt::Write, s: Screen, w: Window, lent: Lent) -> fmt::Result {
     let case = Case {
         lent,
         ..case_of(s, w)
     };
-    show_case(rt, case)
+    show_case(page, case)
 }
 
-fn show_case(rt: &impl Print, case: Case) -> io::Result<()> {
-    show_question(rt, case)?;
+fn show_case(page: &mut impl fmt::Write, case: Case) -> fmt::Result {
+    show_question(page, case)?;
     let mut input = [0u8; 315];
     fill_input(&mut input, case.values);
-    show_worked(rt, case, &input)?;
-    show_read(rt, case, &input)
+    show_worked(page, case, &input)?;
+    show_read(page, case, &input)
 }
 
 // Writes the ink values of one pixel after the other.
@@ -474,7 +504,7 @@ fn fill_input(input: &mut [u8], values: Values) {
 }
 
 // The renderer that works phases out.
-fn show_worked(rt: &impl Print, case: Case, input: &[u8]) -> io::Result<()> {
+fn show_worked(page: &mut impl fmt::Write, case: Case, input: &[u8]) -> fmt::Result {
     let Case {
         s,
         sep,
@@ -486,11 +516,11 @@ fn show_worked(rt: &impl Print, case: Case, input: &[u8]) -> io::Result<()> {
     let inputs = lent.input.min(input.len());
     let outputs = lent.out.min(out.len());
     let answer = render::render(s, sep, w, &input[..inputs], &mut out[..outputs]);
-    show_rendering(rt, answer, &out)
+    show_rendering(page, answer, &out)
 }
 
 // The renderer that reads phases from the brick.
-fn show_read(rt: &impl Print, case: Case, input: &[u8]) -> io::Result<()> {
+fn show_read(page: &mut impl fmt::Write, case: Case, input: &[u8]) -> fmt::Result {
     let Case {
         s,
         sep,
@@ -514,7 +544,7 @@ fn show_read(rt: &impl Print, case: Case, input: &[u8]) -> io::Result<()> {
         &brick[..places],
         &mut out[..outputs],
     );
-    show_rendering(rt, answer, &out)
+    show_rendering(page, answer, &out)
 }
 
 // Makes one number of the brick smaller by 1, or 1 where it is 0.
@@ -526,7 +556,7 @@ fn spoil(brick: &mut [u16], wrong: Option<usize>) {
     }
 }
 
-fn show_question(rt: &impl Print, case: Case) -> io::Result<()> {
+fn show_question(page: &mut impl fmt::Write, case: Case) -> fmt::Result {
     let Case {
         s,
         sep,
@@ -534,67 +564,68 @@ fn show_question(rt: &impl Print, case: Case) -> io::Result<()> {
         values,
         lent,
     } = case;
-    show_screen(rt, s)?;
+    show_screen(page, s)?;
     let name = match sep {
         Separation::Demichel => "demichel",
         Separation::Kueppers => "kueppers",
     };
-    print!(rt; ", {name}, {} {} {} {}", w.x, w.y, w.columns, w.rows)?;
-    show_inks(rt, values.inks)?;
+    write!(page, ", {name}, {} {} {} {}", w.x, w.y, w.columns, w.rows)?;
+    show_inks(page, values.inks)?;
     let wrong = lent.wrong.unwrap_or(106);
-    println!(rt;
+    writeln!(
+        page,
         " {}, {} {} {} {wrong}:",
         values.by, lent.input, lent.out, lent.brick
     )
 }
 
 fn show_rendering(
-    rt: &impl Print,
+    page: &mut impl fmt::Write,
     answer: Result<[u64; 8], Refusal>,
     out: &[u8; 105],
-) -> io::Result<()> {
+) -> fmt::Result {
     let (refusal, tallies) = match answer {
         Ok(tallies) => (0, tallies),
         Err(refusal) => (u32::from(refusal), [0; 8]),
     };
-    print!(rt; "{refusal};")?;
+    write!(page, "{refusal};")?;
     for tally in tallies {
-        print!(rt; " {tally}")?;
+        write!(page, " {tally}")?;
     }
-    print!(rt; "; ")?;
+    write!(page, "; ")?;
     for byte in out {
-        print!(rt; "{byte}")?;
+        write!(page, "{byte}")?;
     }
-    println!(rt)
+    writeln!(page)
 }
 
-fn show_cell(rt: &impl Print, s: Screen, x: u32, y: u32, inks: Inks) -> io::Result<()> {
-    show_screen(rt, s)?;
-    print!(rt; ", {x} {y}")?;
-    show_inks(rt, inks)?;
-    print!(rt; ": ")?;
-    show_colorant(rt, render::cell_at(s, Separation::Demichel, x, y, inks))?;
-    print!(rt; ", ")?;
-    show_colorant(rt, render::cell_at(s, Separation::Kueppers, x, y, inks))?;
-    println!(rt)
+fn show_cell(page: &mut impl fmt::Write, s: Screen, x: u32, y: u32, inks: Inks) -> fmt::Result {
+    show_screen(page, s)?;
+    write!(page, ", {x} {y}")?;
+    show_inks(page, inks)?;
+    write!(page, ": ")?;
+    show_colorant(page, render::cell_at(s, Separation::Demichel, x, y, inks))?;
+    write!(page, ", ")?;
+    show_colorant(page, render::cell_at(s, Separation::Kueppers, x, y, inks))?;
+    writeln!(page)
 }
 
-fn show_colorant(rt: &impl Print, answer: Result<u8, Refusal>) -> io::Result<()> {
+fn show_colorant(page: &mut impl fmt::Write, answer: Result<u8, Refusal>) -> fmt::Result {
     match answer {
-        Ok(colorant) => print!(rt; "0 {colorant}"),
-        Err(refusal) => print!(rt; "{} 0", u32::from(refusal)),
+        Ok(colorant) => write!(page, "0 {colorant}"),
+        Err(refusal) => write!(page, "{} 0", u32::from(refusal)),
     }
 }
 
 // The heading of what is shown of a screen that stores these numbers.
-fn show_stored(rt: &impl Print, s: Screen) -> io::Result<()> {
-    println!(rt; "# stored {} {} {}", s.columns, s.rows, s.shift)
+fn show_stored(page: &mut impl fmt::Write, s: Screen) -> fmt::Result {
+    writeln!(page, "# stored {} {} {}", s.columns, s.rows, s.shift)
 }
 
-fn show_screen(rt: &impl Print, s: Screen) -> io::Result<()> {
-    print!(rt; "{} {} {} {} {}", s.a, s.b, s.n, s.k, s.g)
+fn show_screen(page: &mut impl fmt::Write, s: Screen) -> fmt::Result {
+    write!(page, "{} {} {} {} {}", s.a, s.b, s.n, s.k, s.g)
 }
 
-fn show_inks(rt: &impl Print, inks: Inks) -> io::Result<()> {
-    print!(rt; ", {} {} {}", inks.c, inks.m, inks.y)
+fn show_inks(page: &mut impl fmt::Write, inks: Inks) -> fmt::Result {
+    write!(page, ", {} {} {}", inks.c, inks.m, inks.y)
 }

@@ -4,9 +4,9 @@
 #![tactic(auto)]
 
 use arith::{Refusal, number_of};
+use printing::Output;
 use screen::{Brick, Screen};
-use std::io::Write;
-use std::{fmt, io};
+use std::fmt;
 
 // What is shown beside a refusal.
 const NO_SCREEN: Screen = Screen {
@@ -26,8 +26,11 @@ const NO_BRICK: Brick = Brick {
     shift: 0,
 };
 
-fn main(rt: HostRuntime) -> io::Result<()> {
-    let out = &mut io::writer(&rt);
+fn main() {
+    let _ = show_all(&mut Output);
+}
+
+fn show_all(out: &mut impl fmt::Write) -> fmt::Result {
     writeln!(
         out,
         "# a b n k g: refusal; L H S; refusal and phase of (0, 1), of (3, 2); made: refusal, screen"
@@ -61,14 +64,14 @@ fn main(rt: HostRuntime) -> io::Result<()> {
     corners(out)
 }
 
-fn marks(out: &mut impl Write) -> io::Result<()> {
+fn marks(out: &mut impl fmt::Write) -> fmt::Result {
     show(out, screen_of(4, 7, 105, 2, 0))?;
     show(out, screen_of(4, 7, 70, 2, 0))?;
     show(out, screen_of(1, 2, 1, 1, 0))
 }
 
 // Refusal 1: a of 0 and 1, b of 64 and 65, a beside b, and a common divisor.
-fn slopes(out: &mut impl Write) -> io::Result<()> {
+fn slopes(out: &mut impl fmt::Write) -> fmt::Result {
     show(out, screen_of(0, 7, 105, 2, 0))?;
     show(out, screen_of(1, 7, 105, 2, 0))?;
     show(out, screen_of(4, 8, 105, 2, 0))?;
@@ -82,7 +85,7 @@ fn slopes(out: &mut impl Write) -> io::Result<()> {
 }
 
 // Refusals 2 and 3: n of 0, 1, 4096 and 4097; k of 0, 16 and 17, and k beside n.
-fn cells_and_subscreens(out: &mut impl Write) -> io::Result<()> {
+fn cells_and_subscreens(out: &mut impl fmt::Write) -> fmt::Result {
     show(out, screen_of(4, 7, 0, 1, 0))?;
     show(out, screen_of(4, 7, 1, 1, 0))?;
     show(out, screen_of(63, 64, 4096, 16, 4095))?;
@@ -98,7 +101,7 @@ fn cells_and_subscreens(out: &mut impl Write) -> io::Result<()> {
 }
 
 // Refusal 4: g beside n; and n smaller than a.
-fn offsets(out: &mut impl Write) -> io::Result<()> {
+fn offsets(out: &mut impl fmt::Write) -> fmt::Result {
     show(out, screen_of(4, 7, 70, 2, 69))?;
     show(out, screen_of(4, 7, 70, 2, 70))?;
     show(out, screen_of(4, 7, 70, 2, 4294967295))?;
@@ -107,7 +110,7 @@ fn offsets(out: &mut impl Write) -> io::Result<()> {
 }
 
 // Of several refusals the lowest number is answered.
-fn lowest_first(out: &mut impl Write) -> io::Result<()> {
+fn lowest_first(out: &mut impl fmt::Write) -> fmt::Result {
     show(out, screen_of(0, 0, 0, 0, 0))?;
     show(out, screen_of(4, 7, 0, 0, 0))?;
     show(out, screen_of(4, 7, 5, 6, 5))?;
@@ -116,7 +119,7 @@ fn lowest_first(out: &mut impl Write) -> io::Result<()> {
 
 // Refusal 5: both coordinates at the sheet's edge, and that refusals of the screen come first; then the
 // cells that the worked examples of motifs name.
-fn places(out: &mut impl Write) -> io::Result<()> {
+fn places(out: &mut impl fmt::Write) -> fmt::Result {
     let s = screen_of(4, 7, 105, 2, 0);
     show_place(out, s, 0, 0)?;
     show_place(out, s, 65535, 0)?;
@@ -134,7 +137,7 @@ fn places(out: &mut impl Write) -> io::Result<()> {
 }
 
 // Refusal 8: buffers of n - 1, n and n + 1 places, of none, and of n places for a refused screen.
-fn buffers(out: &mut impl Write) -> io::Result<()> {
+fn buffers(out: &mut impl fmt::Write) -> fmt::Result {
     let s = screen_of(4, 7, 70, 2, 0);
     show_filled(out, s, 69)?;
     show_filled(out, s, 70)?;
@@ -148,7 +151,7 @@ fn buffers(out: &mut impl Write) -> io::Result<()> {
     show_filled(out, screen_of(4, 7, 3, 1, 2), 4)
 }
 
-fn replacements(out: &mut impl Write) -> io::Result<()> {
+fn replacements(out: &mut impl fmt::Write) -> fmt::Result {
     listed(out)?;
     limits(out)?;
     many_bricks(out)?;
@@ -156,7 +159,7 @@ fn replacements(out: &mut impl Write) -> io::Result<()> {
 }
 
 // Rule 12.18; and that the screen which was handed back is as good as before.
-fn listed(out: &mut impl Write) -> io::Result<()> {
+fn listed(out: &mut impl fmt::Write) -> fmt::Result {
     let mut s = screen_of(4, 7, 105, 2, 40);
     show(out, s)?;
     s = with_cells(out, s, 70)?;
@@ -168,7 +171,7 @@ fn listed(out: &mut impl Write) -> io::Result<()> {
 }
 
 // Both sides of each limit, and the same number again.
-fn limits(out: &mut impl Write) -> io::Result<()> {
+fn limits(out: &mut impl fmt::Write) -> fmt::Result {
     let mut s = screen_of(63, 64, 105, 2, 0);
     show(out, s)?;
     s = with_cells(out, s, 0)?;
@@ -197,7 +200,7 @@ fn limits(out: &mut impl Write) -> io::Result<()> {
 }
 
 // Cell counts that share much, little and nothing with a.
-fn many_bricks(out: &mut impl Write) -> io::Result<()> {
+fn many_bricks(out: &mut impl fmt::Write) -> fmt::Result {
     let mut s = screen_of(60, 61, 48, 3, 17);
     show(out, s)?;
     s = with_cells(out, s, 60)?;
@@ -213,7 +216,7 @@ fn many_bricks(out: &mut impl Write) -> io::Result<()> {
 }
 
 // Screens of zeros, and others that a replacement would put right: all eight numbers come back.
-fn refused_screens(out: &mut impl Write) -> io::Result<()> {
+fn refused_screens(out: &mut impl fmt::Write) -> fmt::Result {
     let zeros = screen_of(0, 0, 0, 0, 0);
     show(out, zeros)?;
     with_cells(out, zeros, 70)?;
@@ -234,7 +237,7 @@ fn refused_screens(out: &mut impl Write) -> io::Result<()> {
 
 // Refusal 15: each stored number wrong by itself, among them those of rule 12.19; several wrong; and
 // refusals 1 to 4, which come first.
-fn stored(out: &mut impl Write) -> io::Result<()> {
+fn stored(out: &mut impl fmt::Write) -> fmt::Result {
     wrong_columns(out)?;
     wrong_rows(out)?;
     wrong_shift(out)?;
@@ -244,7 +247,7 @@ fn stored(out: &mut impl Write) -> io::Result<()> {
 }
 
 // 2147483683 times 2 is 70 in 32 bits.
-fn wrong_columns(out: &mut impl Write) -> io::Result<()> {
+fn wrong_columns(out: &mut impl fmt::Write) -> fmt::Result {
     show_70(out, 35, 2, 14)?;
     show_70(out, 34, 2, 14)?;
     show_70(out, 36, 2, 14)?;
@@ -253,7 +256,7 @@ fn wrong_columns(out: &mut impl Write) -> io::Result<()> {
     show_70(out, 2147483683, 2, 14)
 }
 
-fn wrong_rows(out: &mut impl Write) -> io::Result<()> {
+fn wrong_rows(out: &mut impl fmt::Write) -> fmt::Result {
     show_70(out, 35, 1, 14)?;
     show_70(out, 35, 3, 14)?;
     show_70(out, 35, 0, 14)?;
@@ -262,7 +265,7 @@ fn wrong_rows(out: &mut impl Write) -> io::Result<()> {
 
 // 14 is true: the numbers beside it; 21, which is 14 to the left; 49, which fits the equation of the shift too;
 // 0; and a number that times 4 is 56 in 32 bits, as 14 times 4 is.
-fn wrong_shift(out: &mut impl Write) -> io::Result<()> {
+fn wrong_shift(out: &mut impl fmt::Write) -> fmt::Result {
     show_70(out, 35, 2, 13)?;
     show_70(out, 35, 2, 15)?;
     show_70(out, 35, 2, 21)?;
@@ -275,7 +278,7 @@ fn wrong_shift(out: &mut impl Write) -> io::Result<()> {
 
 // Columns and rows exchanged; other rectangles of 70 cells, whose shift is 0 by rule 3.3's equation; the brick
 // of another cell count; and none.
-fn wrong_together(out: &mut impl Write) -> io::Result<()> {
+fn wrong_together(out: &mut impl fmt::Write) -> fmt::Result {
     show_70(out, 2, 35, 14)?;
     show_70(out, 7, 10, 0)?;
     show_70(out, 1, 70, 0)?;
@@ -288,7 +291,7 @@ fn wrong_together(out: &mut impl Write) -> io::Result<()> {
     Ok(())
 }
 
-fn lowest_of_stored(out: &mut impl Write) -> io::Result<()> {
+fn lowest_of_stored(out: &mut impl fmt::Write) -> fmt::Result {
     show_stored(out, record_of(4, 8, 70, 2, 0, 35, 2, 21))?;
     show_stored(out, record_of(4, 7, 0, 2, 0, 35, 2, 21))?;
     show_stored(out, record_of(4, 7, 70, 17, 0, 35, 2, 21))?;
@@ -296,7 +299,7 @@ fn lowest_of_stored(out: &mut impl Write) -> io::Result<()> {
 }
 
 // 15 before 5 and 8.
-fn stored_in_calls(out: &mut impl Write) -> io::Result<()> {
+fn stored_in_calls(out: &mut impl fmt::Write) -> fmt::Result {
     let s = record_of(4, 7, 70, 2, 0, 35, 2, 21);
     show_stored(out, s)?;
     show_place(out, s, 65535, 65535)?;
@@ -309,7 +312,7 @@ fn stored_in_calls(out: &mut impl Write) -> io::Result<()> {
 
 // Rule 12.22; the farthest corner and those beside 32 bits; screens of few cells and of many; and screens that
 // are refused.
-fn corners(out: &mut impl Write) -> io::Result<()> {
+fn corners(out: &mut impl fmt::Write) -> fmt::Result {
     let mut s = screen_of(4, 7, 105, 2, 40);
     show(out, s)?;
     s = seen_from(out, s, 100000, 70000)?;
@@ -340,7 +343,7 @@ fn corners(out: &mut impl Write) -> io::Result<()> {
 }
 
 // Refusals 1 to 4 and 15: all eight numbers come back.
-fn unmoved(out: &mut impl Write) -> io::Result<()> {
+fn unmoved(out: &mut impl fmt::Write) -> fmt::Result {
     seen_from(out, record_of(4, 8, 70, 2, 0, 35, 2, 14), 1, 1)?;
     seen_from(out, record_of(4, 7, 0, 2, 0, 35, 2, 14), 1, 1)?;
     seen_from(out, record_of(4, 7, 70, 17, 0, 35, 2, 14), 1, 1)?;
@@ -380,38 +383,38 @@ fn record_of(
 }
 
 // Replaces the offset, and answers the new screen or, refused, the one that it got.
-fn with_offset(out: &mut impl Write, s: Screen, g: u32) -> io::Result<Screen> {
+fn with_offset(out: &mut impl fmt::Write, s: Screen, g: u32) -> Result<Screen, fmt::Error> {
     show_replaced(out, s, "g ", g, screen::replace_offset(s, g))
 }
 
-fn with_subscreens(out: &mut impl Write, s: Screen, k: u32) -> io::Result<Screen> {
+fn with_subscreens(out: &mut impl fmt::Write, s: Screen, k: u32) -> Result<Screen, fmt::Error> {
     show_replaced(out, s, "k ", k, screen::replace_subscreens(s, k))
 }
 
-fn with_cells(out: &mut impl Write, s: Screen, n: u32) -> io::Result<Screen> {
+fn with_cells(out: &mut impl fmt::Write, s: Screen, n: u32) -> Result<Screen, fmt::Error> {
     show_replaced(out, s, "n ", n, screen::replace_cells(s, n))
 }
 
 fn show_replaced(
-    out: &mut impl Write,
+    out: &mut impl fmt::Write,
     s: Screen,
     name: &str,
     by: u32,
     answer: Result<Screen, Refusal>,
-) -> io::Result<Screen> {
+) -> Result<Screen, fmt::Error> {
     writeln!(out, "{name}{by}: {}", Answer(answer, s))?;
     Ok(answer.unwrap_or(s))
 }
 
 // The screen as it is seen from a corner or, refused, the one that was given.
-fn seen_from(out: &mut impl Write, s: Screen, x: u64, y: u64) -> io::Result<Screen> {
+fn seen_from(out: &mut impl fmt::Write, s: Screen, x: u64, y: u64) -> Result<Screen, fmt::Error> {
     let answer = screen::moved(s, x, y);
     writeln!(out, "{x} {y}: {}", Answer(answer, s))?;
     Ok(answer.unwrap_or(s))
 }
 
 // A screen by what it stores, and a replacement of each number; that of n would be refused as 2.
-fn show_stored(out: &mut impl Write, s: Screen) -> io::Result<()> {
+fn show_stored(out: &mut impl fmt::Write, s: Screen) -> fmt::Result {
     writeln!(out, "# stored {} {} {}", s.columns, s.rows, s.shift)?;
     show(out, s)?;
     with_offset(out, s, 0)?;
@@ -421,11 +424,11 @@ fn show_stored(out: &mut impl Write, s: Screen) -> io::Result<()> {
 }
 
 // The same of the screen of 70 cells.
-fn show_70(out: &mut impl Write, columns: u32, rows: u32, shift: u32) -> io::Result<()> {
+fn show_70(out: &mut impl fmt::Write, columns: u32, rows: u32, shift: u32) -> fmt::Result {
     show_stored(out, record_of(4, 7, 70, 2, 0, columns, rows, shift))
 }
 
-fn show(out: &mut impl Write, s: Screen) -> io::Result<()> {
+fn show(out: &mut impl fmt::Write, s: Screen) -> fmt::Result {
     let answer = screen::brick_of(s);
     let brick = answer.unwrap_or(NO_BRICK);
     write!(out, "{}: {}; ", Numbers(s), number_of(screen::check(s)))?;
@@ -442,12 +445,12 @@ fn show(out: &mut impl Write, s: Screen) -> io::Result<()> {
     writeln!(out, "{}", Answer(made, NO_SCREEN))
 }
 
-fn show_place(out: &mut impl Write, s: Screen, x: u32, y: u32) -> io::Result<()> {
+fn show_place(out: &mut impl fmt::Write, s: Screen, x: u32, y: u32) -> fmt::Result {
     writeln!(out, "{}, {x} {y}: {}", Numbers(s), Place(s, x, y))
 }
 
 // Lends the first places of a buffer of 72, and shows the whole buffer, what was not lent included.
-fn show_filled(out: &mut impl Write, s: Screen, places: usize) -> io::Result<()> {
+fn show_filled(out: &mut impl fmt::Write, s: Screen, places: usize) -> fmt::Result {
     let mut buffer = [65535u16; 72];
     let refusal = number_of(fill_first(s, &mut buffer, places));
     write!(out, "{}, {places}: {refusal};", Numbers(s))?;
