@@ -205,13 +205,13 @@ module _ (s : Screen) (x y : ℕ) where
     unfolding place_refusal
     place_on l h = sym (refused_later (refusal_of s) _ e ∙ rw (on_sheet_lem x y 1 1 (omega arith) (omega arith)))
 
-  -- what a place that is not refused keeps
-  pub place_kept : place_refusal s x y ≡ 0 → Limits s × (x < 65536) × (y < 65536)
+  -- what a place that is not refused has passed
+  pub place_passed : place_refusal s x y ≡ 0 → Admitted s × (x < 65536) × (y < 65536)
   unfolding place_refusal
-  place_kept e =
+  place_passed e =
       let parts = or_none (refusal_of s) _ e in
       let sheet = sheet_kept x y 1 1 (unless_none (on_sheet x y 1 1) 4 0 parts.1).0 in
-      (limits_kept s parts.0, omega (arith, sheet.0), omega (arith, sheet.1))
+      (parts.0, omega (arith, sheet.0), omega (arith, sheet.1))
 
 -- ---- 8: a buffer that is too short
 
@@ -282,15 +282,6 @@ brick_limits a b n k g e =
     let limits = limits_of (screen_of a b n k g) e in
     (limits.slope_above, limits.slope_below, limits.slope_limit, limits.cells_above, limits.cells_limit)
 
-module _ (s : Screen) (e : 0 ≡ refusal_of s) where
-  -- of an admitted screen, those of a phase
-  pub phase_limits : (s.a ≤ 64) × (s.b ≤ 64) × (0 < s.n) × (s.n ≤ 4096) × (s.g < s.n)
-  phase_limits =
-      let limits = limits_kept s (sym e) in
-      (omega (arith, limits.slope_below, limits.slope_limit), limits.slope_limit, limits.cells_above, limits.cells_limit, limits.offset_below)
-
-  -- and those of the brick that is filled
-  pub fill_limits : {places : ℕ} → s.n ≤ places → (0 < s.n) × (s.n ≤ 4096) × (s.g < s.n) × (s.columns ≡ columns_of s.a s.n) × (s.n ≤ places)
-  fill_limits room =
-      let limits = limits_kept s (sym e) in
-      (limits.cells_above, limits.cells_limit, limits.offset_below, (stored_kept s (sym e)).columns_true, room)
+-- an admitted screen's a is small
+pub slope_few : (s : Screen) → Admitted s → s.a ≤ 64
+slope_few s ok = let limits = limits_kept s ok in omega (arith, limits.slope_below, limits.slope_limit)

@@ -1,10 +1,8 @@
 // The brick of a screen, and its buffer of phases.
 ghost use Rattle.std.specs.Prelude.{◌≡◌, ◌++◌, ◌+◌, ◌%◌, ◌≤◌, ◌<◌, length, drop, IfOk};
 ghost use Rattle.arith.specs.Refusal.{number_of};
-ghost use Rattle.arith.specs.Run.{upto};
-ghost use Rattle.screen.specs.Sizes.{columns_of};
-ghost use Rattle.screen.specs.Screens.{refusal_of};
-ghost use Rattle.screen.specs.Brick.{stored_brick, phase_at_place, buffer_refusal, filled};
+ghost use Rattle.screen.specs.Screens.{Admitted, refusal_of};
+ghost use Rattle.screen.specs.Brick.{stored_brick, brick_phases, buffer_refusal, filled};
 
 use crate::{Screen, check};
 use arith::{Refusal, carry};
@@ -31,7 +29,7 @@ pub fn brick_of(s: Screen) -> Result<Brick, Refusal>
 }
 
 // Writes a screen's brick to the first n places of a lent buffer; refused, writes nothing.
-#[tactic(auto, using(arith::proofs::RefusalLaws::number_above, crate::proofs::Refusals::buffer_error, crate::proofs::Refusals::buffer_short, crate::proofs::Refusals::buffer_fits, crate::proofs::Refusals::filled_refused, crate::proofs::Refusals::filled_short, crate::proofs::Refusals::filled_served, crate::proofs::Refusals::fill_limits))]
+#[tactic(auto, using(arith::proofs::RefusalLaws::number_above, crate::proofs::Refusals::buffer_error, crate::proofs::Refusals::buffer_short, crate::proofs::Refusals::buffer_fits, crate::proofs::Refusals::filled_refused, crate::proofs::Refusals::filled_short, crate::proofs::Refusals::filled_served))]
 pub fn fill_brick(s: Screen, brick: &mut [u16]) -> Result<(), Refusal>
     ensures refused { number_of result ≡ buffer_refusal s (length brick.old) }
     ensures buffer { brick.new ≡ filled s brick.old }
@@ -40,19 +38,20 @@ pub fn fill_brick(s: Screen, brick: &mut [u16]) -> Result<(), Refusal>
     if brick.len() < s.n as usize {
         return Err(Refusal::Brick);
     }
-    fill(brick, s.a, s.b, s.n, s.g, s.columns);
+    fill(s, brick);
     Ok(())
 }
 
 // Writes the n phases of a brick row after row, each carried from the one before. At a row's end the
 // phase has come round to that of the row's first column, so that one step down is all that is left.
-fn fill(brick: &mut [u16], a: u32, b: u32, n: u32, g: u32, columns: u32)
-    requires { (0 < n) × (n ≤ 4096) × (g < n) × (columns ≡ columns_of a n) × (n ≤ length brick.old) }
-    ensures { brick.new ≡ upto (λ i. phase_at_place a b n g i) n ++ drop n brick.old }
+fn fill(s: Screen, brick: &mut [u16])
+    requires { Admitted s × (s.n ≤ length brick.old) }
+    ensures { brick.new ≡ brick_phases s ++ drop s.n brick.old }
 {
-    let right = a % n;
-    let down = b % n;
-    let mut phase = carry(0, n - g, n);
+    let Screen { n, columns, .. } = s;
+    let right = s.a % n;
+    let down = s.b % n;
+    let mut phase = carry(0, n - s.g, n);
     let mut column = 0;
     for place in 0..n {
         brick[place as usize] = phase as u16;
