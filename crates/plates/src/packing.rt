@@ -55,6 +55,7 @@ impl Cells<'_> {
         requires { length planes.old ≡ planes_length self.window.columns self.window.rows }
         ensures { planes.new ≡ planes_of self.entry.window.columns self.entry.window.rows self.entry.bytes.now }
     {
+        // Not a chain over chunks of the planes: a row is a part of each of the eight.
         for y in 0..self.window.rows {
             self.write_row(y, planes);
         }
