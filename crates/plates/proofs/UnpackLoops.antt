@@ -1,11 +1,10 @@
 -- The loops of unpacking, over plain numbers and lists: the eight bytes of a place are added up and joined, the places of a row that pass are counted, and cells are written place by place and row by row.
 -- Assumes nothing.
-use Prim.Native.Nat.{ℕ, suc, ◌+◌, ◌-◌, ◌*◌, ◌/◌, ◌%◌, ◌≤◌, ◌<◌}
+use Prim.Native.Nat.{ℕ, zero, suc, ◌+◌, ◌-◌, ◌*◌, ◌/◌, ◌%◌, ◌≤◌, ◌<◌}
 use mathlib.Core.Path.{◌≡◌, refl, sym, ap, ◌∙◌}
 use mathlib.Core.Bool.{Bool, true, false, ◌&&◌, and-false}
 use mathlib.Core.List.{List}
-use native.Mathlib.Nat.{add-zero}
-use native.Mathlib.Numerals.{add-one}
+use native.Mathlib.Nat.{add-zero, zero-add}
 use native.Mathlib.Decide.{dec_lt}
 use native.Mathlib.Omega.{arith}
 use lib.Arith.{digits_div, digits_mod}
@@ -15,12 +14,15 @@ use lib.ListN.{length, get_or, take, drop}
 use borrow.Author.Tests.{eqb-true, ne_eqb, lt-ltb, le-ltb}
 use borrow.Rule.Slice.PartMut.{put_mid, same_len_mid}
 use Rattle.std.specs.Int.{from_bool}
+use Rattle.std.specs.List.{fold, list_all, range_with_len, sum_by}
+use Rattle.std.proofs.lemmas.List.Sums.{sum_by_from}
+use Rattle.arith.proofs.RefusalLaws.{both_pass}
 use Rattle.arith.specs.Every.{every}
 use Rattle.arith.specs.Run.{upto}
 use Rattle.arith.specs.Sum.{sum_below, indicator}
-use Rattle.arith.proofs.EveryLaws.{every_same, every_passes, every_fails}
+use Rattle.arith.proofs.EveryLaws.{every_is, every_same, every_passes, every_fails}
 use Rattle.arith.proofs.RunLaws.{Filling, filling_length, filling_part, part_length, upto_length, upto_at, upto_same, upto_is, put_before, put_within}
-use Rattle.arith.proofs.SumLaws.{sum_next, sum_bounded}
+use Rattle.arith.proofs.SumLaws.{sum_same, sum_shift}
 use Rattle.arith.proofs.TallyLaws.{indicator_le, every_counted}
 use Rattle.plates.specs.Planes.{row_bytes, cells_length, colorant_of, cells_of}
 use Rattle.plates.specs.Places.{byte_at, planes_at, once_at, row_once, full_mask, Unpackable, Roomy, WrittenTo, colorant_at, row_of}
@@ -29,36 +31,42 @@ use Rattle.plates.proofs.SoundLaws.{pixel_once}
 use Rattle.plates.proofs.UnionLaws.{union_below, once_by_sums}
 use Rattle.plates.proofs.ColorantLaws.{colorant_at_place}
 
+-- ---- a range
+
+-- a chain that asks whether all numbers below n pass
+pub all_numbers : (n : ℕ) (passes : ℕ → Bool) → list_all passes (range_with_len 0 n) ≡ every n passes
+all_numbers n passes = every_is n passes _ (λ e i l. ap passes (sym (zero-add i)) ∙ only n 0 e i l) (λ h. made n 0 (λ i l. ap passes (zero-add i) ∙ h i l))
+  where
+    only : (m a : ℕ) → list_all passes (range_with_len a m) ≡ true → (i : ℕ) → i < m → passes (a + i) ≡ true
+    only zero a e i l = absurd (omega arith)
+    only (suc m) a e zero l = ap passes (let same : a + 0 ≡ a = omega arith in same) ∙ (both_pass _ _ e).0
+    only (suc m) a e (suc i) l = ap passes (let same : a + suc i ≡ a + 1 + i = omega arith in same) ∙ (only m (a + 1) (both_pass _ _ e).1 i (omega arith))
+
+    made : (m a : ℕ) → ((i : ℕ) → i < m → passes (a + i) ≡ true) → list_all passes (range_with_len a m) ≡ true
+    made zero a h = refl
+    made (suc m) a h = let here : passes a ≡ true = ap passes (let same : a ≡ a + 0 = omega arith in same) ∙ h 0 (omega arith) in rw (here, made m (a + 1) (λ i l. ap passes (let same : a + 1 + i ≡ a + suc i = omega arith in same) ∙ h (suc i) (omega arith))) refl
+
+-- and one that adds up what all numbers below n give
+pub sum_numbers : (n : ℕ) (gives : ℕ → ℕ) → sum_by gives (range_with_len 0 n) ≡ sum_below n gives
+unfolding sum_below
+sum_numbers n gives = go n 0 ∙ sum_same n _ _ (λ i l. ap gives (zero-add i))
+  where
+    go : (m a : ℕ) → sum_by gives (range_with_len a m) ≡ sum_below m (λ i. gives (a + i))
+    go zero a = refl
+    go (suc m) a =
+        let same : sum_below m (λ i. gives (a + 1 + i)) ≡ sum_below m (λ i. gives (a + suc i)) = sum_same m _ _ (λ i l. ap gives (omega arith)) in
+        let here : sum_by gives (range_with_len a (suc m)) ≡ 0 + gives a + sum_by gives (range_with_len (a + 1) m) = sum_by_from gives (0 + gives a) (range_with_len (a + 1) m) in
+        omega (arith, here, go m (a + 1), same, sum_shift m (λ i. gives (a + i)), ap gives (add-zero a))
+
 -- ---- a place
 
--- the bytes of the first p planes are added up and joined
-pub record SumsAt (plane : ℕ) (planes : List ℕ) (place sum union p : ℕ) : Type 0 where
-  pub within : p ≤ 8
-  pub few : sum ≤ 255 * p
-  pub added : sum ≡ sum_below p (byte_at plane planes place)
-  pub joined : union ≡ union_below p (byte_at plane planes place)
-
-pub sums_start : (plane : ℕ) (planes : List ℕ) (place : ℕ) → SumsAt plane planes place 0 0 0
-unfolding sum_below union_below
-sums_start plane planes place = record { within = omega arith; few = omega arith; added = refl; joined = refl }
-
-module _ {plane : ℕ} {planes : List ℕ} {place sum union p : ℕ} (s : SumsAt plane planes place sum union p) where
-  pub sums_next : p < 8 → {byte : ℕ} → byte ≡ byte_at plane planes place p → byte < 256 → SumsAt plane planes place (sum + byte) (bit_or union byte) (p + 1)
-  unfolding sum_below union_below
-  sums_next l e low =
-      record {
-        within = omega arith;
-        few = omega (arith, s.few);
-        added = rw (add-one p, s.added, e);
-        joined = rw (add-one p, s.joined, e);
-      }
-
-  pub sums_end : 8 ≤ p → (pixels : ℕ) → pixels ≤ 8 → ((q : ℕ) → byte_at plane planes place q < 256)
-      → eqb sum (full_mask pixels) && eqb union (full_mask pixels) ≡ once_at plane planes place pixels
-  unfolding once_at planes_at
-  sums_end h pixels few low =
-      let q : p ≡ 8 = omega (arith, s.within) in
-      rw (s.added, s.joined, q) (once_by_sums (byte_at plane planes place) low pixels few)
+-- the bytes of the eight planes are added up and joined by a fold
+pub sums_told : (plane : ℕ) (planes : List ℕ) (place pixels : ℕ) → pixels ≤ 8 → ((q : ℕ) → byte_at plane planes place q < 256)
+    → eqb (fold {A = ℕ} {B = ℕ × ℕ} (λ a p. (a.0 + byte_at plane planes place p, bit_or a.1 (byte_at plane planes place p))) (0, 0) (range_with_len 0 8)).0 (full_mask pixels)
+    && eqb (fold {A = ℕ} {B = ℕ × ℕ} (λ a p. (a.0 + byte_at plane planes place p, bit_or a.1 (byte_at plane planes place p))) (0, 0) (range_with_len 0 8)).1 (full_mask pixels)
+    ≡ once_at plane planes place pixels
+unfolding once_at planes_at sum_below union_below
+sums_told plane planes place pixels few low = once_by_sums (byte_at plane planes place) low pixels few
 
 -- ---- the places of a row
 
@@ -82,52 +90,37 @@ one_or_none false = refl
 pub one_at_most : (test : Bool) → from_bool test ≤ 1
 one_at_most test = rw (one_or_none test) (indicator_le test)
 
--- so many of the first b places pass for eight pixels
-pub record FullAt (columns plane : ℕ) (planes : List ℕ) (start passed b : ℕ) : Type 0 where
-  pub within : b ≤ row_bytes columns
-  pub tells : passed ≡ sum_below b (λ k. indicator (once_at plane planes (start + k) 8))
+module _ (columns plane : ℕ) (planes : List ℕ) (start : ℕ) {passed : ℕ}
+    (e : passed ≡ sum_by (λ b. from_bool (once_at plane planes (start + b) 8)) (range_with_len 0 (row_bytes columns))) where
+  tells : passed ≡ sum_below (row_bytes columns) (λ k. indicator (once_at plane planes (start + k) 8))
+  tells = e ∙ sum_numbers (row_bytes columns) _ ∙ sum_same (row_bytes columns) _ _ (λ k l. one_or_none (once_at plane planes (start + k) 8))
 
-pub full_start : (columns plane : ℕ) (planes : List ℕ) (start : ℕ) → FullAt columns plane planes start 0 0
-unfolding sum_below
-full_start columns plane planes start = record { within = omega arith; tells = refl }
+  -- each place of eight pixels passes exactly where as many of them pass as there are,
+  eights : every (columns / 8) (λ k. once_at plane planes (start + k) (columns - 8 * k))
+      ≡ eqb (sum_below (columns / 8) (λ k. indicator (once_at plane planes (start + k) 8))) (columns / 8)
+  eights =
+      every_same (columns / 8) _ _ (λ k l. sym (once_full plane planes (start + k) (columns - 8 * k) (omega arith)))
+      ∙ sym (every_counted (columns / 8) (λ k. once_at plane planes (start + k) 8))
 
-module _ {columns plane : ℕ} {planes : List ℕ} {start passed b : ℕ} (s : FullAt columns plane planes start passed b) where
-  pub full_few : passed ≤ b
-  full_few = rw s.tells (sum_bounded b _ (λ k l. indicator_le (once_at plane planes (start + k) 8)))
+  -- and there the row ends, or with one place more
+  pub full_end : columns % 8 ≡ 0 → eqb passed (columns / 8) ≡ row_once columns plane planes start
+  unfolding row_once
+  full_end none =
+      let bytes : row_bytes columns ≡ columns / 8 = omega arith in
+      rw (tells, bytes) (sym eights)
 
-  -- the next place passes, or it does not
-  pub full_next : b < row_bytes columns → {more : ℕ} → more ≡ from_bool (once_at plane planes (start + b) 8) → FullAt columns plane planes start (passed + more) (b + 1)
-  full_next l e = record { within = omega arith; tells = rw (s.tells, sum_next b, e, one_or_none) refl }
-
-  module _ (h : row_bytes columns ≤ b) where
-    -- each place of eight pixels passes exactly where as many of them pass as there are,
-    eights : every (columns / 8) (λ k. once_at plane planes (start + k) (columns - 8 * k))
-        ≡ eqb (sum_below (columns / 8) (λ k. indicator (once_at plane planes (start + k) 8))) (columns / 8)
-    eights =
-        every_same (columns / 8) _ _ (λ k l. sym (once_full plane planes (start + k) (columns - 8 * k) (omega arith)))
-        ∙ sym (every_counted (columns / 8) (λ k. once_at plane planes (start + k) 8))
-
-    -- and there the row ends, or with one place more
-    pub full_end : columns % 8 ≡ 0 → eqb passed (columns / 8) ≡ row_once columns plane planes start
-    unfolding row_once
-    full_end e =
-        let all : b ≡ columns / 8 = omega (arith, s.within) in
-        let bytes : row_bytes columns ≡ columns / 8 = omega arith in
-        rw (s.tells, bytes, all) (sym eights)
-
-    pub full_last : (columns % 8 ≡ 0 → ⊥) → {r : Bool} → r ≡ once_at plane planes (start + columns / 8) (columns % 8)
-        → eqb passed (columns / 8) && r ≡ row_once columns plane planes start
-    unfolding sum_below every row_once
-    full_last some {r} e =
-        let next : row_bytes columns ≡ suc (columns / 8) = omega arith in
-        let all : b ≡ suc (columns / 8) = omega (arith, s.within) in
-        let left : columns - 8 * (columns / 8) ≡ columns % 8 = omega arith in
-        rw (s.tells, next, all, left, ← e, eights)
-        (go _ _ r (λ q. ap indicator (once_fewer plane planes (start + columns / 8) (columns % 8) (omega arith) (sym e ∙ q))))
-      where
-        go : (count more : ℕ) (r : Bool) → (r ≡ true → more ≡ 0) → eqb (count + more) (columns / 8) && r ≡ eqb count (columns / 8) && r
-        go count more true none = rw (none refl, add-zero count) refl
-        go count more false none = and-false (eqb (count + more) (columns / 8)) ∙ sym (and-false (eqb count (columns / 8)))
+  pub full_last : (columns % 8 ≡ 0 → ⊥) → {r : Bool} → r ≡ once_at plane planes (start + columns / 8) (columns % 8)
+      → eqb passed (columns / 8) && r ≡ row_once columns plane planes start
+  unfolding sum_below every row_once
+  full_last some {r} last =
+      let next : row_bytes columns ≡ suc (columns / 8) = omega arith in
+      let left : columns - 8 * (columns / 8) ≡ columns % 8 = omega arith in
+      rw (tells, next, left, ← last, eights)
+      (go _ _ r (λ q. ap indicator (once_fewer plane planes (start + columns / 8) (columns % 8) (omega arith) (sym last ∙ q))))
+    where
+      go : (count more : ℕ) (r : Bool) → (r ≡ true → more ≡ 0) → eqb (count + more) (columns / 8) && r ≡ eqb count (columns / 8) && r
+      go count more true none = rw (none refl, add-zero count) refl
+      go count more false none = and-false (eqb (count + more) (columns / 8)) ∙ sym (and-false (eqb count (columns / 8)))
 
 -- ---- the pixels of a row
 

@@ -55,6 +55,7 @@ impl Cells<'_> {
         requires { length planes.old ≡ planes_length self.window.columns self.window.rows }
         ensures { planes.new ≡ planes_of self.entry.window.columns self.entry.window.rows self.entry.bytes.now }
     {
+        // Not a chain over chunks of the planes: a row is a part of each of the eight.
         for y in 0..self.window.rows {
             self.write_row(y, planes);
         }
@@ -68,6 +69,8 @@ impl Cells<'_> {
         ensures { PackedTo self.entry.window.columns self.entry.window.rows self.entry.bytes.now planes.new (y * row_bytes self.entry.window.columns + row_bytes self.entry.window.columns) }
     {
         let full = self.window.columns / 8;
+        // A loop over chunks_exact of the row was tried, and is no plainer: it needs the place's number as well,
+        // and a clause that says which cells a chunk has.
         for b in 0..full {
             self.write_place(y, b, 8, planes);
         }

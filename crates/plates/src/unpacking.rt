@@ -60,12 +60,7 @@ impl<'a> Planes<'a> {
         ensures { result ≡ pixels_once self.entry.window.columns self.entry.window.rows self.entry.bytes.now && padding_clear self.entry.window.columns self.entry.window.rows self.entry.bytes.now }
     {
         let bytes = self.window.row_bytes();
-        for y in 0..self.window.rows {
-            if !self.row_sound(y * bytes) {
-                return false;
-            }
-        }
-        true
+        (0..self.window.rows).all(|y| self.row_sound(y * bytes))
     }
 
     // The same of the row that begins at a place of the planes. All its places are tested for eight pixels
@@ -77,10 +72,9 @@ impl<'a> Planes<'a> {
         ensures { result ≡ row_once self.entry.window.columns self.entry.plane self.entry.bytes.now start }
     {
         let columns = self.window.columns;
-        let mut passed = 0u16;
-        for b in 0..self.window.row_bytes() {
-            passed += u16::from(self.once_at(start + b, 8));
-        }
+        let passed: u16 = (0..self.window.row_bytes())
+            .map(|b| u16::from(self.once_at(start + b, 8)))
+            .sum();
         let full = columns / 8;
         let pixels = columns % 8;
         let whole = pixels == 0;
@@ -97,13 +91,10 @@ impl<'a> Planes<'a> {
         ensures { result ≡ once_at self.entry.plane self.entry.bytes.now place pixels }
     {
         let full = full_mask(pixels);
-        let mut sum = 0;
-        let mut union = 0;
-        for p in 0..8 {
+        let (sum, union) = (0..8).fold((0, 0), |(sum, union), p| {
             let byte = u16::from(self.byte_at(place, p));
-            sum += byte;
-            union |= byte;
-        }
+            (sum + byte, union | byte)
+        });
         (sum == full) & (union == full)
     }
 
@@ -165,6 +156,7 @@ impl Sound<'_> {
         ensures { WrittenTo self.entry.planes.window.columns self.entry.planes.window.rows self.entry.planes.bytes.now cells.new (to * self.entry.planes.window.columns) }
     {
         let bytes = self.planes.window.row_bytes();
+        // Not a chain over chunks of the cells: with the surplus, the parts that are lent overlap.
         for y in from..to {
             let first = y * self.planes.window.columns;
             self.write_row(y * bytes, &mut cells[first..first + pixels]);
@@ -178,6 +170,8 @@ impl Sound<'_> {
     {
         let count = out.len();
         let full = count / 8;
+        // A loop over chunks_exact_mut was tried; its proof did not close, since nothing is known of what the
+        // lent cells end as. Over chunks_mut, which are not known to be eight, it is slower too.
         for b in 0..full {
             let first = 8 * b;
             self.write_pixels(start + b, &mut out[first..first + 8]);

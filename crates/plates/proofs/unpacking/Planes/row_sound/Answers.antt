@@ -1,32 +1,35 @@
--- `plates::unpacking::Planes::row_sound` meets its contract, by the laws of its loop (UnpackLoops).
+-- `plates::unpacking::Planes::row_sound` meets its contract, by the laws of a row's places (UnpackLoops).
 -- Assumes nothing.
-use mathlib.Core.Path.{ap, ◌∙◌}
+use Prim.Native.Nat.{◌+◌, ◌^◌}
 use mathlib.Core.Bool.{and-true}
 use native.Mathlib.Omega.{arith}
-use Prim.Native.Nat.{◌≤◌}
+use borrow.Author.Tests.{tests}
 use Rattle.std.specs.Int.{from_bool}
-use Rattle.plates.proofs.UnpackLoops.{full_start, full_few, full_next, full_end, full_last, one_at_most}
+use Rattle.std.specs.List.{range_with_len}
+use Rattle.std.proofs.Common.{rules}
+use Rattle.std.proofs.lemmas.List.FromFn.{length-range_with_len}
+use Rattle.std.proofs.lemmas.Iterator.{YieldsList-from_range, YieldsList-from_map}
+use Rattle.std.proofs.lemmas.Iterator.Adapters.{fits_from_length, at_most_from_yields_List}
+use Rattle.std.proofs.lemmas.Iterator.Consumers.{sum_by_from_yields_List}
+use Rattle.plates.specs.Planes.{row_bytes}
+use Rattle.plates.specs.Places.{once_at}
+use Rattle.plates.proofs.UnpackLoops.{full_end, full_last, one_at_most}
 use Rattle.plates.proofs.unpacking.Planes.row_sound.Goals as goal
 use Rattle.plates.proofs.unpacking.Planes.row_sound.Goals.{then-whole, else-whole}
 
-pub loop-b-init : goal.loop-b-init
-loop-b-init c = full_start _ _ _ _
-
-pub overflow_add-passed : goal.overflow_add-passed
-overflow_add-passed c =
-    let one : c.from-passed.result ≤ 1 = rw c.from-passed.ensures (one_at_most c.once_at.result) in
-    omega (arith, full_few c.loop-b.invariant, c.loop-b.invariant.within, c.args.self.window.wide)
-
-pub loop-b-preserved : goal.loop-b-preserved
-loop-b-preserved c =
-    full_next c.loop-b.invariant (rw c.row_bytes-b-end.ensures at c.loop-b-test.true) (c.from-passed.ensures ∙ ap from_bool c.once_at.ensures)
+pub sum-passed-requires-clause-fits : goal.sum-passed-requires-clause-fits
+sum-passed-requires-clause-fits c =
+    let n = row_bytes c.args.self.window.columns in
+    fits_from_length _ _ 8192 (2 ^ 16) (at_most_from_yields_List (YieldsList-from_range 0 n n (rw c.row_bytes.ensures at c.map.ensures.source) (omega arith)) (rw (length-range_with_len 0 n) (omega (arith, c.args.self.window.wide)))) c.map.ensures.closure (omega arith) (λ x r q k. search (rules, one_at_most))
 
 pub returns : goal.returns
 returns c =
-    let so_far = c.loop-b.invariant in
-    let ended = rw c.row_bytes-b-end.ensures at c.loop-b-test.false in
+    let planes = c.args.self in
+    let n = row_bytes planes.window.columns in
+    let so_far = sum_by_from_yields_List (λ b. from_bool (once_at planes.plane planes.bytes.now (c.args.start + b) 8)) (range_with_len 0 n) _ _ c.sum-passed.ensures.ran
+    (YieldsList-from_map _ _ (YieldsList-from_range 0 n n (rw c.row_bytes.ensures at c.map.ensures.source) (omega arith)) c.map.ensures.closure (λ x r q k. search (rules, tests))) in
     rw c.from.ensures
     (elim c.if-whole.branch [
-      | then-whole w ↦ rw (w.last-is, w.if-whole.true, and-true) (full_end so_far ended w.if-whole.true)
-      | else-whole w ↦ rw w.last-is (full_last so_far ended w.if-whole.false w.once_at-last.ensures)
+      | then-whole w ↦ rw (w.last-is, w.if-whole.true, and-true) (full_end _ _ _ _ so_far w.if-whole.true)
+      | else-whole w ↦ rw w.last-is (full_last _ _ _ _ so_far w.if-whole.false w.once_at-last.ensures)
     ])
