@@ -13,7 +13,7 @@ use native.Mathlib.Decide.{dec_lt}
 use native.Mathlib.Omega.{arith}
 use lib.Dec.{eqb, leb}
 use lib.ListN.{length, get_or, take, length-append, get_or-append}
-use lib.Seq.{get_or-append_seam, get_or_at, take-suc, take-length}
+use lib.Seq.{length-take-le, get_or-take, get_or-append_seam, get_or_at, take-suc, take-length}
 use borrow.Author.Tests.{lt-ltb, le-ltb, le-leb, leb-true, eq-eqb, ne_eqb, eqb-false, not-true}
 use Rattle.std.specs.List.{list_all}
 use Rattle.std.specs.Char.{is_ascii_digit}
@@ -123,13 +123,18 @@ unfolding value_up_to
 value_upto xs ys zero h = refl
 value_upto xs ys (suc i) h = rw (value_upto xs ys i (λ j l. h j (omega arith)), h i (omega arith))
 
+-- the value of the first digits
+pub value_front : (xs : List ℕ) (i : ℕ) → i < length xs → value_of (take i xs) ≡ value_up_to xs i
+unfolding value_of
+value_front xs i h = rw (length-take-le i xs (omega arith)) (value_upto (take i xs) xs i (λ j l. get_or-take i xs j 0 l))
+
 -- the value of one digit
 value_one : (x : ℕ) → value_of (x ∷ []) ≡ x - 48
 unfolding value_of value_up_to
 value_one x = omega arith
 
 -- and of digits and one more
-value_snoc : (xs : List ℕ) (x : ℕ) → value_of (xs ++ x ∷ []) ≡ 10 * value_of xs + (x - 48)
+pub value_snoc : (xs : List ℕ) (x : ℕ) → value_of (xs ++ x ∷ []) ≡ 10 * value_of xs + (x - 48)
 unfolding value_of value_up_to
 value_snoc xs x =
     rw (length-append, add-one, get_or-append_seam, value_upto (xs ++ x ∷ []) xs (length xs) (λ j l. get_or-append xs (x ∷ []) 0 j l))

@@ -26,6 +26,7 @@ pub(crate) fn judge(input: &[u8]) -> Result<Job<'_>, BadLine>
 {
     let (screen, lines) = screen_line(input).map_err(|refusal| BadLine { line: 1, refusal })?;
     let mut rest = lines;
+    // The number is needed: it says which line is bad, or how many P lines there are.
     for line in 1..257 {
         let patch = patch_line(rest).ok_or(BadLine {
             line: line + 1,

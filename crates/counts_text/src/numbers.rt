@@ -34,9 +34,7 @@ fn value_of(field: &[u8]) -> u32
     requires { is_number field.now ≡ true }
     ensures { result ≡ value_of field.now }
 {
-    let mut value = 0;
-    for digit in field {
-        value = 10 * value + u32::from(digit - b'0');
-    }
-    value
+    field
+        .iter()
+        .fold(0, |value, digit| 10 * value + u32::from(digit - b'0'))
 }

@@ -65,6 +65,7 @@ impl<'a> Output<'a> {
         ensures { Puts (lines_of_counts job.entry.screen job.entry.lines.now job.entry.patches) self.old self.new }
     {
         let mut rest = job.lines;
+        // The job says how many P lines there are, and each begins where the one before it ends.
         for _p in 0..job.patches {
             let patch = patch_line(rest).unwrap();
             let counts = quantiser::counted(job.screen, patch.sep, patch.inks);

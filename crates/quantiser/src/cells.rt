@@ -74,6 +74,7 @@ fn threshold_of(s: Screen, phase: u32) -> u32
     ensures { result ≡ threshold_of s phase }
 {
     let mut passed = 0;
+    // `subscreen` is a number of the rule, no index.
     for subscreen in 0..s.k {
         let next = passed + (s.n + subscreen) / s.k;
         if phase < next {
@@ -90,6 +91,8 @@ fn rank_phases(s: Screen, table: &mut [u16])
     ensures { table.new ≡ upto (threshold_of s) s.n ++ drop s.n table.old }
 {
     let mut start = 0;
+    // `split_at_mut` with the rest carried on was tried; its proof did not close, since nothing is known of the
+    // parts that earlier turns wrote.
     for subscreen in 0..s.k {
         let size = (s.n + subscreen) / s.k;
         let next = start + size as usize;

@@ -34,6 +34,8 @@ impl Painter<'_> {
     {
         let wide = w.columns as usize;
         let mut tallies = [0u64; 8];
+        // A zip of `chunks_exact` and `chunks_exact_mut` was tried; its proof did not close, since nothing is
+        // known of the cells once the chunks are written.
         for j in 0..w.rows {
             let from = j as usize * wide;
             let to = from + wide;
@@ -63,6 +65,8 @@ impl Painter<'_> {
         ensures counts { tallies.new ≡ tallied_on tallies.old out.new }
     {
         let mut paint = unpainted(self.screen.n, self.sep);
+        // A zip with the input by threes was tried; its proof did not close, since nothing is known of a cell
+        // after a `zip` with `iter_mut`.
         for (i, cell) in out.iter_mut().enumerate() {
             let threshold = self.table[phases.next() as usize];
             paint.turn(self.screen.n, self.sep, inks_at(input, i), threshold);
