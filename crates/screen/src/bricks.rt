@@ -35,26 +35,27 @@ pub fn fill_brick(s: Screen, brick: &mut [u16]) -> Result<(), Refusal>
     ensures buffer { brick.new ≡ filled s brick.old }
 {
     check(s)?;
-    if brick.len() < s.n as usize {
+    let n = s.n as usize;
+    if brick.len() < n {
         return Err(Refusal::Brick);
     }
-    fill(s, brick);
+    fill(s, &mut brick[..n]);
     Ok(())
 }
 
 // Writes the n phases of a brick row after row, each carried from the one before. At a row's end the
 // phase has come round to that of the row's first column, so that one step down is all that is left.
 fn fill(s: Screen, brick: &mut [u16])
-    requires { Admitted s × (s.n ≤ length brick.old) }
-    ensures { brick.new ≡ brick_phases s ++ drop s.n brick.old }
+    requires { Admitted s × (length brick.old ≡ s.n) }
+    ensures { brick.new ≡ brick_phases s }
 {
     let Screen { n, columns, .. } = s;
     let right = s.a % n;
     let down = s.b % n;
     let mut phase = carry(0, n - s.g, n);
     let mut column = 0;
-    for place in 0..n {
-        brick[place as usize] = phase as u16;
+    for place in brick.iter_mut() {
+        *place = phase as u16;
         phase = carry(phase, right, n);
         column += 1;
         if column == columns {
