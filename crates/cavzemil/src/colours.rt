@@ -81,6 +81,7 @@ fn primaries_in(values: &[f64]) -> [Xyz; 8]
     requires { length values.now ≡ 24 }
     ensures { result ≡ primaries_in values.now }
 {
+    // `array::from_fn` was tried; its proof did not close, since of the list that it makes too little is known.
     [
         primary_in(values, 0),
         primary_in(values, 1),
