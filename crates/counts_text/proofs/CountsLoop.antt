@@ -40,13 +40,13 @@ module _ {s : Screen} {text : List ℕ} {patches : ℕ} {start out : Output} {re
   module _ (l : p < patches) where
     module _ (sep : Separation) (inks : Inks) (a : sep ≡ separation_in (line_at rest 0)) (b : inks ≡ inks_in (line_at rest 0)) where
       -- the counts that are answered make its line
-      line_lem : (counts : List ℕ) → counts ≡ upto (count s sep inks) 8 → line_of letter_c counts ≡ written s text p
+      pub counts_line_lem : (counts : List ℕ) → counts ≡ upto (count s sep inks) 8 → line_of letter_c counts ≡ written s text p
       unfolding counts_line
-      line_lem counts e = rw (e, a, b, reached_piece c.here) refl
+      counts_line_lem counts e = rw (e, a, b, reached_piece c.here) refl
 
       -- there is room for it
       pub counts_room : (counts : List ℕ) → counts ≡ upto (count s sep inks) 8 → out.done + length (line_of letter_c counts) ≤ length out.text.now
-      counts_room counts e = rw (line_lem counts e) (omega (
+      counts_room counts e = rw (counts_line_lem counts e) (omega (
         arith,
         c.room,
         joined_within patches (p + 1) (written s text) (omega arith),
@@ -64,5 +64,5 @@ module _ {s : Screen} {text : List ℕ} {patches : ℕ} {start out : Output} {re
             room = c.room;
             within = omega arith;
             here = reached_next c.here parted;
-            puts = puts_as (puts_then c.puts (puts_as q (line_lem counts e))) (sym (joined_next p (written s text)));
+            puts = puts_as (puts_then c.puts (puts_as q (counts_line_lem counts e))) (sym (joined_next p (written s text)));
           }

@@ -1,11 +1,13 @@
 pub mod AllMarks
 pub mod Published
 mod SplitLaws
+mod IndexLaws
 mod NumberLaws
 mod WroteLaws
 mod JoinedLaws
 mod LineLoop
 mod LineLaws
+mod ReadLaws
 mod NumbersLoop
 mod HeadLaws
 mod JudgeLaws

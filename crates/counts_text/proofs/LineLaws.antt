@@ -29,7 +29,7 @@ module _ (many most : ℕ) (numbers : List (List ℕ)) (e : are_numbers many mos
   pub number_count : length numbers ≡ many
   number_count = eqb-true (length numbers) many (count_and_each many most numbers e).0
 
-  number_form : (j : ℕ) → j < many → is_number_to most (get_or numbers j []) ≡ true
+  pub number_form : (j : ℕ) → j < many → is_number_to most (get_or numbers j []) ≡ true
   number_form j l = every_passes many (λ i. is_number_to most (get_or numbers i [])) (count_and_each many most numbers e).1 j l
 
   pub number_limit : (j : ℕ) → j < many → number_at numbers j ≤ most

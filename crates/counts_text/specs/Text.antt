@@ -20,6 +20,11 @@ unfoldable pub split : ℕ → List ℕ → List (List ℕ)
 split byte [] = [] ∷ []
 split byte (x ∷ text) = let pieces = split byte text in cond (eqb x byte) ([] ∷ pieces) (prepend x pieces)
 
+-- the first place where a byte stands, or the text's length
+unfoldable pub index_of : ℕ → List ℕ → ℕ
+index_of byte [] = 0
+index_of byte (x ∷ text) = cond (eqb x byte) 0 (suc (index_of byte text))
+
 -- The lines of a text: each piece but the last is ended by its byte 10, and the last is what no byte 10 ends.
 abbrev pub lines : List ℕ → List (List ℕ)
 lines text = split newline text

@@ -10,5 +10,6 @@ mod PlaneLaws
 mod NineLaws
 mod Refusals
 mod WordLaws
+mod HighestLaws
 mod PackLoops
 mod UnpackLoops

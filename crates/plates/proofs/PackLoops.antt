@@ -36,10 +36,10 @@ abbrev pub highest_of : ℕ → List ℕ → ℕ
 highest_of = fold (λ highest cell. max cell highest)
 
 -- it is within a bound where the number and each cell is, and only there
-highest_kept : (bound start : ℕ) (cells : List ℕ) → highest_of start cells ≤ bound → (start ≤ bound) × ((i : ℕ) → i < length cells → get_or cells i 0 ≤ bound)
-highest_kept bound start [] h = (h, λ i l. absurd (omega arith))
-highest_kept bound start (cell ∷ cells) h =
-    let rest = highest_kept bound (max cell start) cells h in
+highest_bound : (bound start : ℕ) (cells : List ℕ) → highest_of start cells ≤ bound → (start ≤ bound) × ((i : ℕ) → i < length cells → get_or cells i 0 ≤ bound)
+highest_bound bound start [] h = (h, λ i l. absurd (omega arith))
+highest_bound bound start (cell ∷ cells) h =
+    let rest = highest_bound bound (max cell start) cells h in
     (omega (arith, rest.0), go rest)
   where
     go : (max cell start ≤ bound) × ((i : ℕ) → i < length cells → get_or cells i 0 ≤ bound)
@@ -55,7 +55,7 @@ highest_made bound start (cell ∷ cells) h each =
 pub highest_tells : (cells : List ℕ) → leb (highest_of 0 cells) 7 ≡ colorants_only cells
 unfolding colorants_only
 highest_tells cells =
-    every_is (length cells) _ _ (λ e i l. le-leb _ _ ((highest_kept 7 0 cells (leb-true _ _ e)).1 i l))
+    every_is (length cells) _ _ (λ e i l. le-leb _ _ ((highest_bound 7 0 cells (leb-true _ _ e)).1 i l))
     (λ all. le-leb _ _ (highest_made 7 0 cells (omega arith) (λ i l. leb-true _ _ (all i l))))
 
 -- ---- the word

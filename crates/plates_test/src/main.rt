@@ -3,7 +3,7 @@
 // print.
 #![tactic(auto)]
 
-use arith::Refusal;
+use arith::{Refusal, number_of};
 use printing::Output;
 use std::fmt;
 
@@ -263,8 +263,7 @@ fn unpack_first(call: Call, planes: &[u8], cells: &mut [u8]) -> Option<Result<()
 // made.
 fn number(answer: Option<Result<(), Refusal>>) -> u32 {
     match answer {
-        Some(Ok(())) => 0,
-        Some(Err(refusal)) => u32::from(refusal),
+        Some(answer) => number_of(answer),
         None => 1000,
     }
 }

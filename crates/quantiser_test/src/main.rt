@@ -6,7 +6,7 @@
 
 ghost use Rattle.std.specs.Prelude.{◌<◌};
 
-use arith::Refusal;
+use arith::{Refusal, number_of};
 use printing::Output;
 use screen::Screen;
 use separation::{Inks, Separation};
@@ -361,7 +361,7 @@ fn show_both(out: &mut impl fmt::Write, s: Screen, inks: Inks) -> fmt::Result {
         writeln!(
             out,
             "{case}: {};{}",
-            number(counts),
+            number_of(counts),
             Spaced(&counts.unwrap_or([0; 8]))
         )?;
     }
@@ -372,7 +372,7 @@ fn show_both(out: &mut impl fmt::Write, s: Screen, inks: Inks) -> fmt::Result {
 fn show_table(out: &mut impl fmt::Write, s: Screen, places: usize) -> fmt::Result {
     let mut table = [65535u16; 24];
     let lent = places.min(table.len());
-    let refusal = number(quantiser::thresholds(s, &mut table[..lent]));
+    let refusal = number_of(quantiser::thresholds(s, &mut table[..lent]));
     writeln!(
         out,
         "{}, {places}: {refusal};{}",
@@ -409,14 +409,6 @@ fn bar_of(sep: Separation, threshold: u16) -> u64 {
 // The heading of what is shown of a screen that stores these numbers.
 fn show_stored(out: &mut impl fmt::Write, s: Screen) -> fmt::Result {
     writeln!(out, "# stored {} {} {}", s.columns, s.rows, s.shift)
-}
-
-// The number of what a call answers: 0 where it is served, and else its refusal's.
-fn number<T: Drop>(answer: Result<T, Refusal>) -> u32 {
-    match answer {
-        Ok(_) => 0,
-        Err(refusal) => u32::from(refusal),
-    }
 }
 
 // The five numbers of a screen.
