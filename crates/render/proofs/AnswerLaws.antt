@@ -23,18 +23,18 @@ use Rattle.arith.proofs.RefusalLaws.{or_none, number_above, answered_none, answe
 use Rattle.arith.proofs.RunLaws.{upto_length, upto_at, upto_same}
 use Rattle.screen.specs.declared.Screen.{Screen}
 use Rattle.screen.specs.Screens.{Admitted}
-use Rattle.screen.specs.Phase.{phase, place_refusal}
-use Rattle.screen.proofs.Published.{phase_below, place_answered}
+use Rattle.screen.specs.Phase.{Place, phase, place_refusal, place_of}
+use Rattle.screen.proofs.Published.{admitted_words, phase_below, place_answered}
 use Rattle.separation.specs.declared.Separation.{Separation}
 use Rattle.separation.specs.declared.Inks.{Inks}
 use Rattle.separation.specs.Weights.{scale_of}
 use Rattle.separation.specs.Laws.{InkValues}
 use Rattle.quantiser.specs.Subscreens.{colorant_of}
 use Rattle.quantiser.specs.Leaves.{threshold_of, thresholds_in, lone_threshold, levels_of, rank}
-use Rattle.quantiser.proofs.Published.{threshold_listed, threshold_answered, colorant_rank}
+use Rattle.quantiser.proofs.Published.{threshold_within, threshold_listed, threshold_answered, colorant_rank}
 use Rattle.render.specs.declared.Window.{Window}
 use Rattle.render.specs.Windows.{area, inks_at, cell_of, window_cell, window_cells, tallies_of}
-use Rattle.render.specs.Answers.{Rendering, told, window_refusal, brick_refusal, answer_of, rendering, rendered, brick_rendering, lone_cell}
+use Rattle.render.specs.Answers.{Rendering, Cell, told, window_refusal, brick_refusal, answer_of, rendering, rendered, brick_rendering, lone_cell}
 use Rattle.render.specs.Laws.{TalliesOnSheet, lone_window, lone_input, LoneCellRendered}
 use Rattle.render.specs.Rows.{TableOf, cells_by, RowsLent}
 use Rattle.render.proofs.RefusalLaws.{area_limit, window_kept, places_enough}
@@ -71,6 +71,14 @@ module _ (r : ℕ) (cells out : List ℕ) where
       → (told (Ok t) ≡ answer_of r cells) × (out₁ ≡ written r cells out)
   unfolding answer_of
   answer_whole e l p q = (rw (← e, q, p), p ∙ sym (written_all r cells out (sym e) l))
+
+  -- a window without cells
+  pub answer_empty : {v : Rendering} → r ≡ 0 → length cells ≡ 0 → length out ≡ 0 → v ≡ record { refusal = 0; tallies = zeros 8 } → (v ≡ answer_of r cells) × (out ≡ written r cells out)
+  unfolding tallies_of upto tally zeros
+  answer_empty e n m q =
+      let none : out ≡ [] = no_cells out m in
+      let whole = answer_whole {t = zeros 8} {out₁ = out} (sym e) (n ∙ sym m) (none ∙ sym (no_cells cells n)) (sym (ap tallies_of none)) in
+      (q ∙ whole.0, whole.1)
 
 -- the tallies of an answer count each of its cells at most once
 abbrev Within : ℕ → List ℕ → Type 0
@@ -169,6 +177,23 @@ module _ (s : Screen) (x y : ℕ) (none : 0 ≡ place_refusal s x y) {p : ℕ} (
   unfolding lone_cell cell_of
   lone_coloured sep inks v q =
       rw (q, lone_threshold_lem, colorant_rank s ok sep inks v (phase s x y) (phase_below s ok x y), answered_whole (place_refusal s x y) (colorant_of s sep inks (phase s x y)) (sym none))
+
+-- of a place as it is answered by rule 2.4, refused or not
+module _ (s : Screen) (x y : ℕ) {place : Place} (e : place ≡ place_of s x y) where
+  lone_refusal : place.refusal ≡ place_refusal s x y
+  lone_refusal = ap (λ (p : Place). p.refusal) e ∙ (place_answered s x y).0
+
+  pub lone_refused : (sep : Separation) (inks : Inks) → (place.refusal ≡ 0 → ⊥) → ◌≡◌ {A = Cell} (record { refusal = place.refusal; colorant = 0 }) (lone_cell s sep x y inks)
+  unfolding lone_cell
+  lone_refused sep inks h = rw (lone_refusal, answered_none (place_refusal s x y) (cell_of s sep x y inks) (λ z. h (lone_refusal ∙ z)))
+
+  -- a threshold is at most the number of cells
+  pub lone_few : place.refusal ≡ 0 → {t : ℕ} → t ≡ lone_threshold s place.phase → t ≤ 4096
+  lone_few h {t} f =
+      let none : place_refusal s x y ≡ 0 = sym lone_refusal ∙ h in
+      let law = (place_answered s x y).1 none in
+      let at : place.phase ≡ phase s x y = ap (λ (p : Place). p.phase) e ∙ law.1 in
+      omega (arith, lone_threshold_lem s x y (sym none) at f, (threshold_within s law.0 (phase s x y) (phase_below s law.0 x y)).1, ((admitted_words s).0 law.0).cells_limit)
 
 -- and the window there has that cell
 module _ (s : Screen) (sep : Separation) (x y : ℕ) (inks : Inks) where

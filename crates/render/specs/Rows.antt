@@ -1,5 +1,5 @@
--- What the functions below the two renderers ask and promise (rules 7.6 and 7.7). What they write is said by the rule, for each screen
--- that the table of thresholds is of.
+-- What the functions below the two renderers ask and promise (rules 7.6 and 7.7). A row's functions know no screen, only how many cells
+-- it has and a table with the thresholds of its phases; what they write is said by the rule, for each screen that the table is of.
 -- Assumes nothing: these are definitions.
 use Rattle.std.specs.Prelude.{ℕ, ◌+◌, ◌*◌, ◌≤◌, ◌<◌, ◌≡◌, List, length, get_or}
 use Rattle.arith.specs.Run.{upto}
@@ -24,6 +24,10 @@ pub record TableOf (s : Screen) (n : ℕ) (table : List ℕ) : Type 0 where
   pub cells : s.n ≡ n
   pub long : n ≤ length table
   pub listed : (p : ℕ) → p < n → get_or table p 0 ≡ threshold_of s p
+
+-- the table of some screen of n cells
+abbrev pub Table : ℕ → List ℕ → Type 0
+Table n table = (s : Screen) × TableOf s n table
 
 -- a brick of n places in columns and rows, with any numbers below n in them
 pub record BrickLent (n : ℕ) (size : Brick) (brick : List ℕ) : Type 0 where

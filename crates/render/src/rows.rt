@@ -1,21 +1,21 @@
 // Painting a window row after row, wherever the phases of its cells come from.
 ghost use Rattle.std.specs.Prelude.{◌≡◌, ℕ, ◌+◌, ◌/◌, ◌%◌, ◌<◌, length};
 ghost use Rattle.render.specs.Windows.{tallies_of};
-ghost use Rattle.render.specs.Rows.{TableOf, Cells, RowLent, RowsLent, tallied_on};
+ghost use Rattle.render.specs.Rows.{Table, Cells, RowLent, RowsLent, tallied_on};
 
 use crate::Window;
 use crate::cells::{inks_at, unpainted};
 use crate::phases::{Phases, Source};
-use screen::Screen;
 use separation::Separation;
 
-// What cells are painted by: the screen, the separation, and the thresholds by phase.
+// What cells are painted by: how many phases there are, the separation, and the thresholds by phase. It
+// doesn't know the screen that the table is of, and so no slope and no offset.
 #[derive(Clone, Copy)]
 pub(crate) struct Painter<'a> {
-    pub(crate) screen: Screen,
+    pub(crate) n: u32,
     pub(crate) sep: Separation,
     pub(crate) table: &'a [u16],
-    ghost listed: { TableOf screen screen.n table.now },
+    ghost listed: { ∥ Table n table.now ∥₁ },
 }
 
 impl Painter<'_> {
@@ -27,9 +27,9 @@ impl Painter<'_> {
         input: &[u8],
         out: &mut [u8],
     ) -> [u64; 8]
-        requires phases_low { (x y : ℕ) → S.number source.now x y < self.now.screen.n }
+        requires phases_low { (x y : ℕ) → S.number source.now x y < self.now.n }
         requires rows_lent { RowsLent w.x w.y w.columns w.rows (length input.now) (length out.old) }
-        ensures cells { Cells self.now.screen.n self.now.sep self.now.table.now input.now (λ i. S.number source.now (w.x + i % w.columns) (w.y + i / w.columns)) (length out.old) out.new }
+        ensures cells { Cells self.now.n self.now.sep self.now.table.now input.now (λ i. S.number source.now (w.x + i % w.columns) (w.y + i / w.columns)) (length out.old) out.new }
         ensures counts { result ≡ tallies_of out.new }
     {
         let wide = w.columns as usize;
@@ -59,17 +59,17 @@ impl Painter<'_> {
         out: &mut [u8],
         tallies: &mut [u64; 8],
     )
-        requires phases_low { (i : ℕ) → P.at phases i < self.now.screen.n }
+        requires phases_low { (i : ℕ) → P.at phases i < self.now.n }
         requires row_lent { RowLent (length input.now) (length out.old) tallies.old }
-        ensures cells { Cells self.now.screen.n self.now.sep self.now.table.now input.now (P.at phases) (length out.old) out.new }
+        ensures cells { Cells self.now.n self.now.sep self.now.table.now input.now (P.at phases) (length out.old) out.new }
         ensures counts { tallies.new ≡ tallied_on tallies.old out.new }
     {
-        let mut paint = unpainted(self.screen.n, self.sep);
+        let mut paint = unpainted(self.n, self.sep);
         // A zip with the input by threes was tried; its proof did not close, since nothing is known of a cell
         // after a `zip` with `iter_mut`.
         for (i, cell) in out.iter_mut().enumerate() {
             let threshold = self.table[phases.next() as usize];
-            paint.turn(self.screen.n, self.sep, inks_at(input, i), threshold);
+            paint.turn(self.n, self.sep, inks_at(input, i), threshold);
             *cell = paint.cell;
             tallies[paint.cell as usize] += 1;
         }

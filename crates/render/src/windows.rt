@@ -83,7 +83,7 @@ fn paint<S: Source>(
     let mut table = places();
     quantiser::thresholds(s, &mut table).unwrap();
     let painter = Painter {
-        screen: s,
+        n: s.n,
         sep,
         table: &table,
     };

@@ -17,7 +17,7 @@ pub unwrap-requires : goal.unwrap-requires
 unwrap-requires g c = served _ (c.thresholds.ensures.refused ∙ places_free _ _ (window_kept _ _ _ _ c.requires.served).0 c.places-table.ensures)
 
 pub invariant_of-painter : goal.invariant_of-painter
-invariant_of-painter g c = record { listed = table_of _ _ _ (window_kept _ _ _ _ c.requires.served).0 c.places-table.ensures c.thresholds.ensures.places }
+invariant_of-painter g c = record { listed = ∣ (_, table_of _ _ _ (window_kept _ _ _ _ c.requires.served).0 c.places-table.ensures c.thresholds.ensures.places) ∣₁ }
 
 pub rows-requires : goal.rows-requires
 rows-requires g c =

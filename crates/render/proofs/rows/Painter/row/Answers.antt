@@ -1,9 +1,11 @@
 -- `render::rows::Painter::row` meets its contract, by the laws of its loop (RowLoop).
 -- Assumes nothing.
-use Prim.Native.Nat.{ℕ, ◌+◌, ◌<◌}
+use Prim.Native.Nat.{ℕ, ◌+◌, ◌≤◌, ◌<◌}
 use mathlib.Core.Path.{◌≡◌, ap, ◌∙◌}
+use mathlib.Core.Logic.{∥∥₁_elim}
 use native.Mathlib.Omega.{arith}
-use lib.ListN.{get_or}
+use lib.ListN.{length, get_or}
+use native.Mathlib.Bridge.{le_prop}
 use Rattle.render.proofs.RowLoop.{paint_own, paint_small, paint_cell, by_rule, row_start, row_count, row_step, row_end}
 use Rattle.render.proofs.rows.Painter.row.Goals as goal
 
@@ -13,8 +15,10 @@ loop-i-init g c =
 
 pub bounds-self-next : goal.bounds-self-next
 bounds-self-next g c =
-    let low : c.next.result < c.args.self.now.screen.n = rw (c.next.ensures.here, c.loop-i.invariant.2 0) (c.requires.phases_low _) in
-    omega (arith, low, c.args.self.now.listed.long)
+    let painter = c.args.self.now in
+    let low : c.next.result < painter.n = rw (c.next.ensures.here, c.loop-i.invariant.2 0) (c.requires.phases_low _) in
+    let long : painter.n ≤ length painter.table.now = ∥∥₁_elim painter.listed le_prop (λ t. t.1.long) in
+    omega (arith, low, long)
 
 pub overflow_add-tallies : goal.overflow_add-tallies
 overflow_add-tallies g c =

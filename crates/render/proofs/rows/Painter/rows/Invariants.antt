@@ -6,5 +6,5 @@ use Rattle.render.proofs.WindowLoop.{cell_in, WindowAt}
 use Rattle.render.proofs.rows.Painter.rows.Given as goal
 
 abbrev pub invariant-loop-j : goal.invariant-loop-j
-invariant-loop-j g l = (s : Screen) → TableOf s l.self.screen.n l.self.table.now
+invariant-loop-j g l = (s : Screen) → TableOf s l.self.n l.self.table.now
     → WindowAt (cell_in s l.self.sep l.input l.w.columns (λ u v. g.S.Source.number l.source (l.w.x + u) (l.w.y + v))) l.w.columns l.initial.out l.out l.tallies l.j
