@@ -34,7 +34,7 @@ invariant_of-write_planes c =
     let window = c.in_ok-window.window in
     let lengths = rw (c.cells_length.ensures, c.planes_length.ensures) at c.in_ok-check_lengths.ensures in
     let size = size_kept _ _ _ _ _ _ (size_passed _ _ _ _ _ _ window.wide window.high lengths) in
-    record { whole = size.1; colorants = passed c.colorants_only.ensures c.if-not-colorants_only.false }
+    record { packable = record { wide = window.wide; long = size.1; only = passed c.colorants_only.ensures c.if-not-colorants_only.false } }
 
 pub write_planes-requires : goal.write_planes-requires
 write_planes-requires c =

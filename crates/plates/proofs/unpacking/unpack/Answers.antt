@@ -2,6 +2,7 @@
 use mathlib.Core.Path.{◌∙◌}
 use Rattle.std.proofs.lemmas.Result.{err_from_is_err_and}
 use Rattle.arith.proofs.RefusalLaws.{failed, passed}
+use Rattle.plates.proofs.SoundLaws.{unpackable, apart_told}
 use Rattle.plates.proofs.Refusals.{size_5, size_lengths, size_passed, size_kept, unpack_error, unpack_9, unpack_0}
 use Rattle.plates.proofs.unpacking.unpack.Goals as goal
 
@@ -35,6 +36,12 @@ returns-then-not-sound c =
     let sound = rw (c.new-eight.ensures.same_window, c.new-eight.ensures.same_bytes) at (failed c.sound.ensures c.if-not-sound.true) in
     let told = unpack_9 window.columns window.rows c.args.planes.now c.args.cells.now size sound in
     rw (← same.0, ← same.1) (record { refused = told.0; memory = told.1 })
+
+pub invariant_of-write_cells : goal.invariant_of-write_cells
+invariant_of-write_cells c =
+    let planes = c.new-eight.result in
+    let sound = passed c.sound.ensures c.if-not-sound.false in
+    record { unpackable = unpackable _ _ _ planes.window.wide planes.one planes.eight sound; apart = apart_told _ _ _ planes.window.wide planes.one planes.eight sound }
 
 pub write_cells-requires : goal.write_cells-requires
 write_cells-requires c =
