@@ -88,10 +88,15 @@ module _ (columns rows : ℕ) (cells memory : List ℕ) where
         content_passed _ (colorants_only cells) 8 (planes_of columns rows cells) memory size e
         (upto_length _ (planes_length columns rows) ∙ sym (size_kept _ _ _ _ _ _ size).2)
 
-  pub pack_size_lem : (e : Refusal) → number e ≡ pack_size columns rows (length cells) (length memory)
-      → (number e ≡ pack_refusal columns rows cells (length memory)) × (memory ≡ packed columns rows cells memory)
+  pub pack_size_lem : {r : ℕ} → r ≡ pack_size columns rows (length cells) (length memory) → (r ≡ 0 → ⊥)
+      → (r ≡ pack_refusal columns rows cells (length memory)) × (memory ≡ packed columns rows cells memory)
   unfolding pack_refusal packed
-  pack_size_lem e told = size_refused _ (colorants_only cells) 8 (planes_of columns rows cells) memory told (λ z. omega (arith, number_above e, z))
+  pack_size_lem e h = size_refused _ (colorants_only cells) 8 (planes_of columns rows cells) memory e h
+
+  -- the same of a refusal itself, whose number is above 0
+  pub pack_error : (e : Refusal) → number e ≡ pack_size columns rows (length cells) (length memory)
+      → (number e ≡ pack_refusal columns rows cells (length memory)) × (memory ≡ packed columns rows cells memory)
+  pack_error e told = pack_size_lem told (λ z. omega (arith, number_above e, z))
 
 -- ---- unpacking, in the same way
 
@@ -111,10 +116,14 @@ module _ (columns rows : ℕ) (planes memory : List ℕ) where
         content_passed _ sound 8 (cells_of columns rows planes) memory size e
         (upto_length _ (cells_length columns rows) ∙ sym (size_kept _ _ _ _ _ _ size).2)
 
-  pub unpack_size_lem : (e : Refusal) → number e ≡ unpack_size columns rows (length planes) (length memory)
-      → (number e ≡ unpack_refusal columns rows planes (length memory)) × (memory ≡ unpacked columns rows planes memory)
+  pub unpack_size_lem : {r : ℕ} → r ≡ unpack_size columns rows (length planes) (length memory) → (r ≡ 0 → ⊥)
+      → (r ≡ unpack_refusal columns rows planes (length memory)) × (memory ≡ unpacked columns rows planes memory)
   unfolding unpack_refusal unpacked
-  unpack_size_lem e told = size_refused _ sound 8 (cells_of columns rows planes) memory told (λ z. omega (arith, number_above e, z))
+  unpack_size_lem e h = size_refused _ sound 8 (cells_of columns rows planes) memory e h
+
+  pub unpack_error : (e : Refusal) → number e ≡ unpack_size columns rows (length planes) (length memory)
+      → (number e ≡ unpack_refusal columns rows planes (length memory)) × (memory ≡ unpacked columns rows planes memory)
+  unpack_error e told = unpack_size_lem told (λ z. omega (arith, number_above e, z))
 
 -- ---- what a call that is not refused has passed
 

@@ -90,11 +90,12 @@ one_or_none false = refl
 pub one_at_most : (test : Bool) → from_bool test ≤ 1
 one_at_most test = rw (one_or_none test) (indicator_le test)
 
-module _ (columns plane : ℕ) (planes : List ℕ) (start : ℕ) {passed : ℕ}
-    (e : passed ≡ sum_by (λ b. from_bool (once_at plane planes (start + b) 8)) (range_with_len 0 (row_bytes columns))) where
-  tells : passed ≡ sum_below (row_bytes columns) (λ k. indicator (once_at plane planes (start + k) 8))
-  tells = e ∙ sum_numbers (row_bytes columns) _ ∙ sum_same (row_bytes columns) _ _ (λ k l. one_or_none (once_at plane planes (start + k) 8))
+-- so many of the first b places pass for eight pixels
+pub record FullAt (columns plane : ℕ) (planes : List ℕ) (start passed b : ℕ) : Type 0 where
+  pub within : b ≤ row_bytes columns
+  pub tells : passed ≡ sum_below b (λ k. indicator (once_at plane planes (start + k) 8))
 
+module _ {columns plane : ℕ} {planes : List ℕ} {start passed b : ℕ} (s : FullAt columns plane planes start passed b) (h : row_bytes columns ≤ b) where
   -- each place of eight pixels passes exactly where as many of them pass as there are,
   eights : every (columns / 8) (λ k. once_at plane planes (start + k) (columns - 8 * k))
       ≡ eqb (sum_below (columns / 8) (λ k. indicator (once_at plane planes (start + k) 8))) (columns / 8)
@@ -105,22 +106,41 @@ module _ (columns plane : ℕ) (planes : List ℕ) (start : ℕ) {passed : ℕ}
   -- and there the row ends, or with one place more
   pub full_end : columns % 8 ≡ 0 → eqb passed (columns / 8) ≡ row_once columns plane planes start
   unfolding row_once
-  full_end none =
+  full_end e =
+      let all : b ≡ columns / 8 = omega (arith, s.within) in
       let bytes : row_bytes columns ≡ columns / 8 = omega arith in
-      rw (tells, bytes) (sym eights)
+      rw (s.tells, bytes, all) (sym eights)
 
   pub full_last : (columns % 8 ≡ 0 → ⊥) → {r : Bool} → r ≡ once_at plane planes (start + columns / 8) (columns % 8)
       → eqb passed (columns / 8) && r ≡ row_once columns plane planes start
   unfolding sum_below every row_once
-  full_last some {r} last =
+  full_last some {r} e =
       let next : row_bytes columns ≡ suc (columns / 8) = omega arith in
+      let all : b ≡ suc (columns / 8) = omega (arith, s.within) in
       let left : columns - 8 * (columns / 8) ≡ columns % 8 = omega arith in
-      rw (tells, next, left, ← last, eights)
-      (go _ _ r (λ q. ap indicator (once_fewer plane planes (start + columns / 8) (columns % 8) (omega arith) (sym last ∙ q))))
+      rw (s.tells, next, all, left, ← e, eights)
+      (go _ _ r (λ q. ap indicator (once_fewer plane planes (start + columns / 8) (columns % 8) (omega arith) (sym e ∙ q))))
     where
       go : (count more : ℕ) (r : Bool) → (r ≡ true → more ≡ 0) → eqb (count + more) (columns / 8) && r ≡ eqb count (columns / 8) && r
       go count more true none = rw (none refl, add-zero count) refl
       go count more false none = and-false (eqb (count + more) (columns / 8)) ∙ sym (and-false (eqb count (columns / 8)))
+
+-- a chain that counts those of all places comes to the row's end
+module _ (columns plane : ℕ) (planes : List ℕ) (start : ℕ) {passed : ℕ}
+    (e : passed ≡ sum_by (λ b. from_bool (once_at plane planes (start + b) 8)) (range_with_len 0 (row_bytes columns))) where
+  counted : FullAt columns plane planes start passed (row_bytes columns)
+  counted =
+      record {
+        within = omega arith;
+        tells = e ∙ sum_numbers (row_bytes columns) _ ∙ sum_same (row_bytes columns) _ _ (λ k l. one_or_none (once_at plane planes (start + k) 8));
+      }
+
+  pub counted_end : columns % 8 ≡ 0 → eqb passed (columns / 8) ≡ row_once columns plane planes start
+  counted_end none = full_end counted (omega arith) none
+
+  pub counted_last : (columns % 8 ≡ 0 → ⊥) → {r : Bool} → r ≡ once_at plane planes (start + columns / 8) (columns % 8)
+      → eqb passed (columns / 8) && r ≡ row_once columns plane planes start
+  counted_last some last = full_last counted (omega arith) some last
 
 -- ---- the pixels of a row
 

@@ -1,8 +1,8 @@
 // Packing: from cells to planes.
 ghost use Rattle.std.specs.Prelude.{◌≡◌, true, ◌⊎◌, ◌+◌, ◌*◌, ◌≤◌, ◌<◌, length, get_or};
 ghost use Rattle.arith.specs.Refusal.{number_of};
-ghost use Rattle.plates.specs.Planes.{row_bytes, planes_length, cells_length, planes_of, colorants_only};
-ghost use Rattle.plates.specs.Places.{PackedTo, word_of, stored};
+ghost use Rattle.plates.specs.Planes.{row_bytes, planes_length, planes_of, colorants_only};
+ghost use Rattle.plates.specs.Places.{Packable, PackedTo, word_of, stored};
 ghost use Rattle.plates.specs.Refusals.{pack_refusal, packed};
 
 use crate::window::Window;
@@ -45,8 +45,7 @@ fn colorants_only(cells: &[u8]) -> bool
 struct Cells<'a> {
     window: Window,
     bytes: &'a [u8],
-    ghost whole: { length bytes.now ≡ cells_length window.columns window.rows },
-    ghost colorants: { colorants_only bytes.now ≡ true },
+    ghost packable: { Packable window.columns window.rows bytes.now },
 }
 
 impl Cells<'_> {

@@ -1,9 +1,9 @@
 // Unpacking: from planes to cells.
-ghost use Rattle.std.specs.Prelude.{ℕ, ◌≡◌, true, ◌&&◌, ◌+◌, ◌*◌, ◌≤◌, ◌<◌, length, get_or};
+ghost use Rattle.std.specs.Prelude.{ℕ, ◌≡◌, ◌&&◌, ◌+◌, ◌*◌, ◌≤◌, ◌<◌, length, get_or};
 ghost use Rattle.arith.specs.Refusal.{number_of};
 ghost use Rattle.arith.specs.Run.{upto};
 ghost use Rattle.plates.specs.Planes.{row_bytes, planes_length, cells_length, cells_of, pixels_once, padding_clear};
-ghost use Rattle.plates.specs.Places.{byte_at, once_at, row_once, full_mask, Roomy, WrittenTo, colorant_at, row_of, sum_at};
+ghost use Rattle.plates.specs.Places.{byte_at, once_at, row_once, full_mask, Unpackable, Roomy, WrittenTo, Apart, colorant_at, row_of, sum_at};
 ghost use Rattle.plates.specs.Refusals.{unpack_refusal, unpacked};
 
 use crate::window::Window;
@@ -121,11 +121,13 @@ impl<'a> Planes<'a> {
     }
 }
 
-// Planes that may be unpacked: each pixel is in exactly one of them, and no bit past the last column is set.
+// Planes that may be unpacked: each pixel is in exactly one of them, and no bit past the last column is set,
+// so that no bit is in two.
 #[derive(Clone, Copy)]
 struct Sound<'a> {
     planes: Planes<'a>,
-    ghost sound: { pixels_once planes.window.columns planes.window.rows planes.bytes.now && padding_clear planes.window.columns planes.window.rows planes.bytes.now ≡ true },
+    ghost unpackable: { Unpackable planes.window.columns planes.window.rows planes.bytes.now },
+    ghost apart: { Apart planes.plane planes.bytes.now },
 }
 
 impl Sound<'_> {

@@ -1,7 +1,8 @@
 -- `plates::unpacking::Planes::row_sound` meets its contract, by the laws of a row's places (UnpackLoops).
 -- Assumes nothing.
-use Prim.Native.Nat.{◌+◌, ◌^◌}
-use mathlib.Core.Bool.{and-true}
+use Prim.Native.Nat.{◌+◌, ◌%◌, ◌^◌}
+use mathlib.Core.Path.{◌≡◌}
+use mathlib.Core.Bool.{true, and-true}
 use native.Mathlib.Omega.{arith}
 use borrow.Author.Tests.{tests}
 use Rattle.std.specs.Int.{from_bool}
@@ -13,7 +14,7 @@ use Rattle.std.proofs.lemmas.Iterator.Adapters.{fits_from_length, at_most_from_y
 use Rattle.std.proofs.lemmas.Iterator.Consumers.{sum_by_from_yields_List}
 use Rattle.plates.specs.Planes.{row_bytes}
 use Rattle.plates.specs.Places.{once_at}
-use Rattle.plates.proofs.UnpackLoops.{full_end, full_last, one_at_most}
+use Rattle.plates.proofs.UnpackLoops.{counted_end, counted_last, one_at_most}
 use Rattle.plates.proofs.unpacking.Planes.row_sound.Goals as goal
 use Rattle.plates.proofs.unpacking.Planes.row_sound.Goals.{then-whole, else-whole}
 
@@ -30,6 +31,9 @@ returns c =
     (YieldsList-from_map _ _ (YieldsList-from_range 0 n n (rw c.row_bytes.ensures at c.map.ensures.source) (omega arith)) c.map.ensures.closure (λ x r q k. search (rules, tests))) in
     rw c.from.ensures
     (elim c.if-whole.branch [
-      | then-whole w ↦ rw (w.last-is, w.if-whole.true, and-true) (full_end _ _ _ _ so_far w.if-whole.true)
-      | else-whole w ↦ rw w.last-is (full_last _ _ _ _ so_far w.if-whole.false w.once_at-last.ensures)
+      | then-whole w ↦
+          let passes : c.if-whole.last ≡ true = search (rules, tests) in
+          let none : planes.window.columns % 8 ≡ 0 = omega (arith, w.if-whole.true) in
+          rw (passes, and-true) (counted_end _ _ _ _ so_far none)
+      | else-whole w ↦ rw w.last-is (counted_last _ _ _ _ so_far (λ none. omega (arith, w.if-whole.false, none)) w.once_at-last.ensures)
     ])

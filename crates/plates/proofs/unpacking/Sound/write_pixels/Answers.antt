@@ -4,17 +4,16 @@ use native.Mathlib.Omega.{arith}
 use Rattle.arith.proofs.RunLaws.{filling_start, filling_length, filling_store, filling_whole}
 use Rattle.plates.proofs.MaskLaws.{mask_pos}
 use Rattle.plates.proofs.ColorantLaws.{sums_fit, three_bits}
-use Rattle.plates.proofs.SoundLaws.{apart_told}
 use Rattle.plates.proofs.unpacking.Sound.write_pixels.Goals as goal
 
 pub sum_of-ones-requires-clause-fits : goal.sum_of-ones-requires-clause-fits
-sum_of-ones-requires-clause-fits c = (sums_fit _ _ _ (λ p. c.args.self.planes.small _) (apart_told _ _ _ c.args.self.planes.window.wide c.args.self.planes.one c.args.self.planes.eight c.args.self.sound) c.requires.there).0
+sum_of-ones-requires-clause-fits c = (sums_fit _ _ _ (λ p. c.args.self.planes.small _) c.args.self.apart c.requires.there).0
 
 pub sum_of-twos-requires-clause-fits : goal.sum_of-twos-requires-clause-fits
-sum_of-twos-requires-clause-fits c = (sums_fit _ _ _ (λ p. c.args.self.planes.small _) (apart_told _ _ _ c.args.self.planes.window.wide c.args.self.planes.one c.args.self.planes.eight c.args.self.sound) c.requires.there).1
+sum_of-twos-requires-clause-fits c = (sums_fit _ _ _ (λ p. c.args.self.planes.small _) c.args.self.apart c.requires.there).1
 
 pub sum_of-fours-requires-clause-fits : goal.sum_of-fours-requires-clause-fits
-sum_of-fours-requires-clause-fits c = (sums_fit _ _ _ (λ p. c.args.self.planes.small _) (apart_told _ _ _ c.args.self.planes.window.wide c.args.self.planes.one c.args.self.planes.eight c.args.self.sound) c.requires.there).2
+sum_of-fours-requires-clause-fits c = (sums_fit _ _ _ (λ p. c.args.self.planes.small _) c.args.self.apart c.requires.there).2
 
 pub loop-t-init : goal.loop-t-init
 loop-t-init c = filling_start _ _
@@ -33,7 +32,7 @@ loop-t-preserved c =
     let room = c.loop-t-test.true in
     filling_store c.loop-t.invariant _ room
     (rw (c.mask_of-mask.ensures, c.sum_of-ones.ensures, c.sum_of-twos.ensures, c.sum_of-fours.ensures)
-    (three_bits _ _ _ (λ p. c.args.self.planes.small _) (apart_told _ _ _ c.args.self.planes.window.wide c.args.self.planes.one c.args.self.planes.eight c.args.self.sound) c.requires.there _ (omega (arith, c.requires.few))))
+    (three_bits _ _ _ (λ p. c.args.self.planes.small _) c.args.self.apart c.requires.there _ (omega (arith, c.requires.few))))
 
 pub shape_of-out : goal.shape_of-out
 shape_of-out c = filling_length c.loop-t.invariant

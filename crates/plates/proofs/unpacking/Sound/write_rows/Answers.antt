@@ -4,7 +4,6 @@ use native.Mathlib.Nat.{mul-le-mul_right}
 use native.Mathlib.Omega.{arith}
 use Rattle.plates.specs.Planes.{row_bytes}
 use Rattle.plates.proofs.PlaceLaws.{row_ends}
-use Rattle.plates.proofs.SoundLaws.{unpackable}
 use Rattle.plates.proofs.UnpackLoops.{written_fewer, written_part, written_row}
 use Rattle.plates.proofs.unpacking.Sound.write_rows.Goals as goal
 
@@ -37,12 +36,11 @@ write_row-requires c =
 
 pub loop-y-preserved : goal.loop-y-preserved
 loop-y-preserved c =
-    let planes = c.args.self.planes in
     let y = c.loop-y.y in
     let so_far = c.loop-y.invariant in
     let row = c.loop-y-test.true in
     written_fewer
-    (written_row (unpackable _ _ _ planes.window.wide planes.one planes.eight c.args.self.sound) c.requires.roomy y _ _ row
+    (written_row c.args.self.unpackable c.requires.roomy y _ _ row
     (rw (c.row_bytes-bytes.ensures, c.args.self.planes.one, written_part so_far c.requires.roomy y row) at c.write_row.ensures)
     so_far)
     _ (omega arith)
