@@ -1,7 +1,7 @@
 -- The loop that writes the lines of counts: those of the first P lines are written, and there is room for all.
 -- Assumes nothing.
-use Prim.Native.Nat.{ℕ, ◌+◌, ◌≤◌, ◌<◌}
-use mathlib.Core.Path.{◌≡◌, refl, sym, ap}
+use Prim.Native.Nat.{ℕ, suc, ◌+◌, ◌≤◌, ◌<◌}
+use mathlib.Core.Path.{◌≡◌, refl, sym, ap, ◌∙◌}
 use mathlib.Core.List.{List}
 use native.Mathlib.Omega.{arith}
 use lib.ListN.{length, length-append}
@@ -11,10 +11,11 @@ use Rattle.separation.specs.declared.Separation.{Separation}
 use Rattle.separation.specs.declared.Inks.{Inks}
 use Rattle.quantiser.specs.Running.{count}
 use Rattle.counts_text.specs.Text.{newline, line_at, joined}
-use Rattle.counts_text.specs.Lines.{letter_c, separation_in, inks_in, line_of, counts_line}
-use Rattle.counts_text.specs.Parsers.{Parted, ArePatches, lines_of_counts}
+use Rattle.counts_text.specs.Lines.{letter_c, screen_in, separation_in, inks_in, line_of, counts_line}
+use Rattle.counts_text.specs.Parsers.{Parted, Accepted, ArePatches, lines_of_counts}
 use Rattle.counts_text.proofs.SplitLaws.{Reached, reached_start, reached_piece, reached_next}
 use Rattle.counts_text.proofs.JoinedLaws.{joined_next, joined_within}
+use Rattle.counts_text.proofs.ProgramLaws.{later}
 use Rattle.counts_text.specs.declared.writing.Output.{Output}
 use Rattle.counts_text.specs.Output.{Puts}
 use Rattle.counts_text.proofs.WroteLaws.{puts_none, puts_as, puts_then}
@@ -40,13 +41,19 @@ module _ {s : Screen} {text : List ℕ} {patches : ℕ} {start out : Output} {re
   module _ (l : p < patches) where
     module _ (sep : Separation) (inks : Inks) (a : sep ≡ separation_in (line_at rest 0)) (b : inks ≡ inks_in (line_at rest 0)) where
       -- the counts that are answered make its line
-      pub counts_line_lem : (counts : List ℕ) → counts ≡ upto (count s sep inks) 8 → line_of letter_c counts ≡ written s text p
+      pub counts_line_here : (counts : List ℕ) → counts ≡ upto (count s sep inks) 8 → line_of letter_c counts ≡ written s text p
       unfolding counts_line
-      counts_line_lem counts e = rw (e, a, b, reached_piece c.here) refl
+      counts_line_here counts e = rw (e, a, b, reached_piece c.here) refl
+
+      -- which is that of the whole text's line, where the P lines are what follows its first
+      pub counts_line_lem : (whole : List ℕ) → Accepted whole patches → Parted newline whole text → s ≡ screen_in (line_at whole 0) → (counts : List ℕ)
+          → counts ≡ upto (count s sep inks) 8 → line_of letter_c counts ≡ counts_line (screen_in (line_at whole 0)) (line_at whole (suc p))
+      counts_line_lem whole good parted screen counts e =
+          counts_line_here counts e ∙ ap (λ (z : Screen). counts_line z (line_at text p)) screen ∙ ap (counts_line (screen_in (line_at whole 0))) (later whole text patches good parted p)
 
       -- there is room for it
       pub counts_room : (counts : List ℕ) → counts ≡ upto (count s sep inks) 8 → out.done + length (line_of letter_c counts) ≤ length out.text.now
-      counts_room counts e = rw (counts_line_lem counts e) (omega (
+      counts_room counts e = rw (counts_line_here counts e) (omega (
         arith,
         c.room,
         joined_within patches (p + 1) (written s text) (omega arith),
@@ -64,5 +71,5 @@ module _ {s : Screen} {text : List ℕ} {patches : ℕ} {start out : Output} {re
             room = c.room;
             within = omega arith;
             here = reached_next c.here parted;
-            puts = puts_as (puts_then c.puts (puts_as q (counts_line_lem counts e))) (sym (joined_next p (written s text)));
+            puts = puts_as (puts_then c.puts (puts_as q (counts_line_here counts e))) (sym (joined_next p (written s text)));
           }

@@ -1,42 +1,51 @@
--- The loop that reads the numbers of a line: the first fields are numbers, and their values are stored. It ends at a field that is no
--- number, where no field is left, or where all numbers are read.
+-- The loop that reads the numbers of a line into memory: the first fields are numbers, and their values are stored. It ends at a field
+-- that is no number, where no field is left, or where there is no more room.
 -- Assumes nothing.
 use Prim.Native.Nat.{ℕ, ◌+◌, ◌≤◌, ◌<◌}
 use mathlib.Core.Path.{◌≡◌, refl, sym, ap, ◌∙◌}
-use mathlib.Core.Bool.{Bool, true, false, cond, ◌&&◌}
-use mathlib.Core.List.{List, [], ◌∷◌, append-nil}
-use native.Mathlib.Decide.{dec_lt}
+use mathlib.Core.Bool.{Bool, true, false, cond, not, ◌&&◌}
+use mathlib.Core.List.{List, [], ◌∷◌, ◌++◌}
 use native.Mathlib.Omega.{arith}
 use lib.Dec.{eqb}
-use lib.ListN.{length, get_or, set, drop, replicate, length-drop, length-replicate, drop_of_length-le}
-use borrow.Author.Tests.{ne_eqb, eq-eqb}
+use lib.ListN.{length, get_or, set, drop, replicate, length-drop, length-replicate, get_or-eq_default}
+use borrow.Author.Tests.{ne_eqb, eq-eqb, not-false}
 use denote.Ref.{Bor}
-use Rattle.std.specs.Prelude.{Option, Some, None, is_some}
+use Rattle.std.specs.Prelude.{Option, Some, None, is_none}
+use Rattle.std.proofs.lemmas.List.{set-get_or}
 use Rattle.arith.specs.Run.{upto}
 use Rattle.arith.proofs.EveryLaws.{every_made, every_fails}
-use Rattle.arith.proofs.RunLaws.{Filling, filling_start, filling_store}
+use Rattle.arith.proofs.FirstLaws.{Searching, searching_start, searching_on, searching_found, searching_end, first_within, none_before}
+use Rattle.arith.proofs.RunLaws.{upto_over, Filling, filling_start, filling_store}
 use Rattle.counts_text.specs.Text.{fields, tab}
-use Rattle.counts_text.specs.Numbers.{is_number_to, value_of}
-use Rattle.counts_text.specs.Lines.{are_numbers, number_at}
-use Rattle.counts_text.specs.Parsers.{fields_left}
+use Rattle.counts_text.specs.Numbers.{is_number, is_number_to, value_of}
+use Rattle.counts_text.specs.Lines.{are_numbers, number_at, leading, numbers_over}
+use Rattle.counts_text.specs.Parsers.{fields_left, NumbersRead}
 use Rattle.counts_text.proofs.SplitLaws.{some_piece, left_some, left_first, left_next}
+use Rattle.counts_text.proofs.ReadLaws.{line_failed, line_passed}
 
-pub record NumbersAt (many most : ℕ) (line of : List ℕ) (left : Option (Bor (List ℕ))) (i : ℕ) : Type 0 where
+-- whether field j is no number, or is above the limit
+abbrev no_number : ℕ → List ℕ → ℕ → Bool
+no_number most line j = not (is_number_to most (get_or (fields line) j []))
+
+pub record NumbersAt (most : ℕ) (line of₀ of : List ℕ) (left : Option (Bor (List ℕ))) (i : ℕ) : Type 0 where
   pub within : i ≤ length (fields line)
   pub rest : drop i (fields line) ≡ fields_left left
-  pub form : (k : ℕ) → k < i → is_number_to most (get_or (fields line) k []) ≡ true
-  pub stored : Filling (number_at (fields line)) (replicate many 0) of i
+  pub read : Searching (length of₀) (no_number most line) i
+  pub stored : Filling (number_at (fields line)) of₀ of i
 
-pub numbers_start : (many most : ℕ) (line : Bor (List ℕ)) → NumbersAt many most line.now (replicate many 0) (Some line) 0
-numbers_start many most line =
-    record { within = omega arith; rest = refl; form = λ k l. absurd (omega arith); stored = filling_start _ (replicate many 0) }
+pub numbers_start : (most : ℕ) (line : Bor (List ℕ)) (of : List ℕ) → NumbersAt most line.now of of (Some line) 0
+numbers_start most line of =
+    record { within = omega arith; rest = refl; read = searching_start _ _; stored = filling_start _ of }
 
--- what is answered, where the test fails and where it passes
-refused : (t : Bool) (of : List ℕ) → t ≡ false → None ≡ cond t (Some of) None
-refused t of e = rw e refl
+-- as much memory is left as was lent
+pub numbers_kept : {most : ℕ} {line before after : List ℕ} {r : Bool} → NumbersRead most line before after r → length after ≡ length before
+unfolding numbers_over leading
+numbers_kept {most} {line} {before} w = rw w.memory (upto_over (number_at (fields line)) before _ (first_within (length before) (no_number most line)))
 
-served : (t : Bool) (of : List ℕ) → t ≡ true → Some of ≡ cond t (Some of) None
-served t of e = rw e refl
+-- there is no number after the last field
+none_beyond : (most : ℕ) (line : List ℕ) (j : ℕ) → length (fields line) ≤ j → no_number most line j ≡ true
+unfolding is_number_to is_number
+none_beyond most line j h = rw (get_or-eq_default (fields line) [] {n = j} h) refl
 
 -- what `number_in` answered
 told_none : (t : Bool) (v : ℕ) → None ≡ cond t (Some v) None → t ≡ false
@@ -47,72 +56,80 @@ told_some : (t : Bool) (v w : ℕ) → Some w ≡ cond t (Some v) None → (t �
 told_some true v w e = (refl, cc)
 told_some false v w e = cc
 
--- how many fields are left
-some_left : (left : Option (Bor (List ℕ))) → true ≡ is_some left → 1 ≤ length (fields_left left)
-some_left None e = cc
-some_left (Some rest) e = some_piece tab rest.now
-
-none_left : (left : Option (Bor (List ℕ))) → false ≡ is_some left → length (fields_left left) ≡ 0
-none_left None e = refl
-none_left (Some rest) e = cc
+-- where so many fields are read and each is a number, these are all where none is left
+all_read : (left : Option (Bor (List ℕ))) (count many : ℕ) (each : Bool) → count ≡ many + length (fields_left left) → each ≡ true → is_none left ≡ (eqb count many && each)
+all_read None count many each e t = rw (eq-eqb count many (omega (arith, e)), t) refl
+all_read (Some rest) count many each e t = rw (ne_eqb count many (λ q. omega (arith, q, e, some_piece tab rest.now))) refl
 
 both_false : (t : Bool) → (t && false) ≡ false
 both_false true = refl
 both_false false = refl
 
-module _ {many most : ℕ} {line of : List ℕ} {left : Option (Bor (List ℕ))} {i : ℕ} (n : NumbersAt many most line of left i) where
-  other_count : (length (fields line) ≡ many → ⊥) → are_numbers many most (fields line) ≡ false
-  unfolding are_numbers
-  other_count h = rw (ne_eqb (length (fields line)) many h) refl
+module _ {most : ℕ} {line of₀ of : List ℕ} {left : Option (Bor (List ℕ))} {i : ℕ} (n : NumbersAt most line of₀ of left i) where
+  count_left : length (fields line) ≡ i + length (fields_left left)
+  count_left = omega (arith, n.within, length-drop i (fields line), ap (λ (l : List (List ℕ)). length l) n.rest)
 
-  -- no field is left, and some number is due
-  pub numbers_short : left ≡ None → i < many → None ≡ cond (are_numbers many most (fields line)) (Some (upto (number_at (fields line)) many)) None
+  -- the memory, once all leading numbers are stored
+  all_stored : i ≡ leading (length of₀) most (fields line) → of ≡ numbers_over most (fields line) of₀
+  unfolding numbers_over
+  all_stored e = n.stored.cells ∙ ap (λ (k : ℕ). upto (number_at (fields line)) k ++ drop k of₀) e
+
+  -- no field is left, and there is room for some number: its place is given back as it was
+  pub numbers_short : left ≡ None → i < length of₀ → NumbersRead most line of₀ (set of i (get_or of i 0)) false
+  unfolding are_numbers leading
   numbers_short e l =
-      let none : length (fields_left left) ≡ 0 = rw e refl in
-      refused _ _ (other_count (λ q. omega (arith, length-drop i (fields line), ap (λ (l : List (List ℕ)). length l) n.rest)))
+      let count : length (fields line) ≡ i + 0 = count_left ∙ rw e refl in
+      record {
+        form = rw (ne_eqb (length (fields line)) (length of₀) (λ q. omega (arith, count, q))) refl;
+        memory = set-get_or of i 0 ∙ all_stored (searching_found n.read (none_beyond most line i (omega (arith, count))));
+      }
 
-  -- a field is left, and no number is due
-  pub numbers_surplus : true ≡ is_some left → many ≤ i → None ≡ cond (are_numbers many most (fields line)) (Some (upto (number_at (fields line)) many)) None
-  numbers_surplus e l =
-      let some = some_left left e in
-      refused _ _ (other_count (λ q. omega (arith, length-drop i (fields line), ap (λ (l : List (List ℕ)). length l) n.rest)))
+  -- there is no more room
+  pub numbers_full : (answer : Bool) → answer ≡ is_none left → length of₀ ≤ i → NumbersRead most line of₀ of answer
+  unfolding are_numbers leading
+  numbers_full answer e h =
+      let whole : i ≡ length of₀ = omega (arith, n.read.within) in
+      let each = every_made (length of₀) (λ k. is_number_to most (get_or (fields line) k [])) (λ k l. not-false _ (none_before (length of₀) (no_number most line) k (omega (arith, n.read.up_to)))) in
+      record {
+        form = e ∙ all_read left (length (fields line)) (length of₀) _ (omega (arith, count_left, whole)) each;
+        memory = all_stored (omega (arith, whole, searching_end n.read h));
+      }
 
-  -- all are read
-  pub numbers_all : false ≡ is_some left → many ≤ i → Some of ≡ cond (are_numbers many most (fields line)) (Some (upto (number_at (fields line)) many)) None
-  unfolding are_numbers
-  numbers_all e l =
-      let whole : i ≡ many = omega (arith, n.stored.within, length-replicate {A = ℕ} many 0) in
-      let none = none_left left e in
-      let count : length (fields line) ≡ many = omega (arith, n.within, length-drop i (fields line), ap (λ (l : List (List ℕ)). length l) n.rest) in
-      let each = every_made many (λ k. is_number_to most (get_or (fields line) k [])) (λ k h. n.form k (omega arith)) in
-      let read : of ≡ upto (number_at (fields line)) many =
-      n.stored.cells ∙ rw (whole, drop_of_length-le {A = ℕ} (replicate many 0) {i = many} (omega (arith, length-replicate {A = ℕ} many 0)), append-nil) refl in
-      ap Some read ∙ served _ _ (rw (eq-eqb (length (fields line)) many count, each) refl)
-
-  module _ {field : List ℕ} (next : Option (Bor (List ℕ))) {rest : Bor (List ℕ)} (e : left ≡ Some rest) (f : fields rest.now ≡ field ∷ fields_left next) (l : i < many) where
+  module _ {field : List ℕ} (next : Option (Bor (List ℕ))) {rest : Bor (List ℕ)} (e : left ≡ Some rest) (f : fields rest.now ≡ field ∷ fields_left next) (l : i < length of₀) where
     here : drop i (fields line) ≡ field ∷ fields_left next
     here = n.rest ∙ ap fields_left e ∙ f
 
-    -- a field that is no number
-    pub numbers_stopped : None ≡ cond (is_number_to most field) (Some (value_of field)) None → None ≡ cond (are_numbers many most (fields line)) (Some (upto (number_at (fields line)) many)) None
-    unfolding are_numbers
+    -- a field that is no number: its place is given back as it was
+    pub numbers_stopped : None ≡ cond (is_number_to most field) (Some (value_of field)) None → NumbersRead most line of₀ (set of i (get_or of i 0)) false
+    unfolding are_numbers leading
     numbers_stopped q =
         let none : is_number_to most (get_or (fields line) i []) ≡ false = rw (left_first (fields line) i here []) (told_none _ _ q) in
-        refused _ _ (rw (every_fails many (λ k. is_number_to most (get_or (fields line) k [])) i l none) (both_false (eqb (length (fields line)) many)))
+        record {
+          form = sym (rw (every_fails (length of₀) (λ k. is_number_to most (get_or (fields line) k [])) i l none) (both_false (eqb (length (fields line)) (length of₀))));
+          memory = set-get_or of i 0 ∙ all_stored (searching_found n.read (ap not none));
+        }
 
     -- a number
-    pub numbers_step : (v : ℕ) → Some v ≡ cond (is_number_to most field) (Some (value_of field)) None → NumbersAt many most line (set of i v) next (i + 1)
+    pub numbers_step : (v : ℕ) → Some v ≡ cond (is_number_to most field) (Some (value_of field)) None → NumbersAt most line of₀ (set of i v) next (i + 1)
     numbers_step v q =
         let told = told_some (is_number_to most field) (value_of field) v q in
         record {
           within = omega (arith, left_some (fields line) i here);
           rest = left_next (fields line) i here;
-          form = λ k h. go k told.0 (dec_lt k i) h;
-          stored = filling_store n.stored v (omega (arith, length-replicate {A = ℕ} many 0)) (told.1 ∙ sym (ap value_of (left_first (fields line) i here [])));
+          read = searching_on n.read l (rw (left_first (fields line) i here []) (ap not told.0));
+          stored = filling_store n.stored v l (told.1 ∙ sym (ap value_of (left_first (fields line) i here [])));
         }
-      where
-        go : (k : ℕ) → is_number_to most field ≡ true → Dec (k < i) → k < i + 1 → is_number_to most (get_or (fields line) k []) ≡ true
-        go k t (yes p) h = n.form k p
-        go k t (no p) h =
-            let same : k ≡ i = omega arith in
-            rw (same, left_first (fields line) i here []) t
+
+-- ---- what `numbers` answers of so many zeros that were lent
+
+module _ {most : ℕ} {line of : List ℕ} {answer : Bool} (many : ℕ) (read : NumbersRead most line (replicate many 0) of answer) where
+  room : length (replicate {A = ℕ} many 0) ≡ many
+  room = length-replicate {A = ℕ} many 0
+
+  pub numbers_none : answer ≡ false → None ≡ cond (are_numbers many most (fields line)) (Some (upto (number_at (fields line)) many)) None
+  numbers_none n = rw (ap (λ (k : ℕ). are_numbers k most (fields line)) (sym room) ∙ line_failed read n) refl
+
+  pub numbers_some : answer ≡ true → Some of ≡ cond (are_numbers many most (fields line)) (Some (upto (number_at (fields line)) many)) None
+  numbers_some n =
+      let passed = line_passed read n in
+      rw (ap (λ (k : ℕ). are_numbers k most (fields line)) (sym room) ∙ passed.0) (ap Some (passed.1 ∙ ap (upto (number_at (fields line))) room))

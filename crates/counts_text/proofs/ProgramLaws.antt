@@ -22,7 +22,7 @@ too_long text l = rw (lt-ltb 65536 (length text) l)
 
 -- the lines after the first of a good text are P lines
 module _ (text rest : List ℕ) (patches : ℕ) (ok : Accepted text patches) (parted : Parted newline text rest) where
-  later : (i : ℕ) → line_at rest i ≡ line_at text (suc i)
+  pub later : (i : ℕ) → line_at rest i ≡ line_at text (suc i)
   later i = sym (ap (λ (pieces : List (List ℕ)). get_or pieces i []) parted.others) ∙ get_or-drop 1 (lines text) i [] ∙ ap (λ (k : ℕ). get_or (lines text) k []) (one-add i)
 
   pub good_patches : ArePatches rest patches

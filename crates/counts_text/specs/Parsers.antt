@@ -1,7 +1,7 @@
 -- What the parsers answer of the text that they are given: the value at its beginning and the rest of the text, or that its
 -- beginning is not of the form. Each is a statement of a text and an answer, by the cases of the answer.
 -- Assumes nothing.
-use Rattle.std.specs.Prelude.{ℕ, suc, ◌+◌, ◌≤◌, ◌<◌, ◌≡◌, true, List, [], ◌∷◌, ◌++◌, length, get_or, drop, Option, Some, None, Result, Ok, Err}
+use Rattle.std.specs.Prelude.{ℕ, suc, ◌+◌, ◌≤◌, ◌<◌, ◌≡◌, Bool, true, List, [], ◌∷◌, ◌++◌, length, get_or, drop, Option, Some, None, Result, Ok, Err}
 use denote.Ref.{Bor}
 use Rattle.arith.specs.Refusal.{number}
 use Rattle.arith.specs.declared.refusals.Refusal.{Refusal}
@@ -13,7 +13,7 @@ use Rattle.counts_text.specs.declared.parsers.PatchLine.{PatchLine}
 use Rattle.counts_text.specs.declared.judging.Job.{Job}
 use Rattle.counts_text.specs.declared.judging.BadLine.{BadLine}
 use Rattle.counts_text.specs.Text.{newline, tab, split, lines, fields, line_at, joined}
-use Rattle.counts_text.specs.Lines.{letter_s, letter_p, demichel, kueppers, is_patch, screen_by, screen_in, separation_in, inks_in, counts_line}
+use Rattle.counts_text.specs.Lines.{letter_s, letter_p, demichel, kueppers, are_numbers, numbers_over, is_patch, screen_by, screen_in, separation_in, inks_in, counts_line}
 use Rattle.counts_text.specs.Program.{ended, line_refusal, first_bad}
 
 -- a byte ends a text's first piece, and `rest` is what follows it
@@ -24,6 +24,11 @@ pub record Parted (byte : ℕ) (text rest : List ℕ) : Type 0 where
 abbrev pub fields_left : Option (Bor (List ℕ)) → List (List ℕ)
 fields_left (Some rest) = fields rest.now
 fields_left None = []
+
+-- the numbers at its beginning, read into memory, and whether they are all of the line and fill the memory
+pub record NumbersRead (most : ℕ) (text before after : List ℕ) (r : Bool) : Type 0 where
+  pub form : r ≡ are_numbers (length before) most (fields text)
+  pub memory : after ≡ numbers_over most (fields text) before
 
 -- what a line begins with: `S` and a tab; `P`, a separation's name and a tab after each
 abbrev pub head_s : List ℕ

@@ -21,7 +21,8 @@ pub fn run(input: &[u8], out: &mut [u8; 16384]) -> usize
     ensures fits { (result ≤ length out.new) × (result ≡ length (take result out.new)) }
 {
     let mut output = Output { text: out, done: 0 };
-    if 65536 < input.len() {
+    let too_long = 65536 < input.len();
+    if too_long {
         output.put_error(BadLine {
             line: 0,
             refusal: Refusal::Form,

@@ -1,12 +1,12 @@
 // Parsers: each takes the rest of a text and answers what stands at its beginning and the text after it, or
 // that it is not of the form.
-ghost use Rattle.std.specs.Prelude.{◌≡◌, ℕ, cond, Some, None, List, ◌∷◌, [], ◌++◌, MatchOption};
+ghost use Rattle.std.specs.Prelude.{◌≡◌, ◌<◌, ◌+◌, ℕ, cond, Some, None, List, ◌∷◌, [], ◌++◌, length, take, drop, MatchOption};
 ghost use Rattle.separation.specs.declared.Separation.{Separation};
 ghost use Rattle.arith.specs.Run.{upto};
-ghost use Rattle.counts_text.specs.Text.{split, fields};
+ghost use Rattle.counts_text.specs.Text.{split, index_of, fields};
 ghost use Rattle.counts_text.specs.Lines.{are_numbers, number_at};
 ghost use Rattle.counts_text.specs.Program.{line_refusal};
-ghost use Rattle.counts_text.specs.Parsers.{head_p, fields_left, ScreenNumbers, ScreenSays, PatchSays};
+ghost use Rattle.counts_text.specs.Parsers.{head_p, fields_left, NumbersRead, ScreenNumbers, ScreenSays, PatchSays};
 
 use crate::numbers::number_in;
 use arith::Refusal;
@@ -23,7 +23,8 @@ pub(crate) struct PatchLine<'a> {
 
 // The text before the first place where a byte stands, and the text after that place.
 fn split_once(text: &[u8], byte: u8) -> Option<(&[u8], &[u8])>
-    ensures { MatchOption result (split byte text.now ≡ text.now ∷ []) (λ parts. split byte text.now ≡ parts.0.now ∷ split byte parts.1.now) }
+    ensures pieces { MatchOption result (split byte text.now ≡ text.now ∷ []) (λ parts. split byte text.now ≡ parts.0.now ∷ split byte parts.1.now) }
+    ensures place { MatchOption result (index_of byte text.now ≡ length text.now) (λ parts. (index_of byte text.now < length text.now) × (parts.0.now ≡ take (index_of byte text.now) text.now) × (parts.1.now ≡ drop (index_of byte text.now + 1) text.now)) }
 {
     let end = text.iter().position(|&b| b == byte)?;
     Some((&text[..end], &text[end + 1..]))
@@ -39,21 +40,36 @@ fn first_field(line: &[u8]) -> (&[u8], Option<&[u8]>)
     }
 }
 
+// Reads the numbers, none above a limit, that a line begins with, as far as there is room for them. Answers
+// whether the line has these fields alone and they fill the room.
+fn read_numbers(line: &[u8], most: u32, of: &mut [u32]) -> bool
+    ensures { NumbersRead most line.now of.old of.new result }
+{
+    let mut left = Some(line);
+    for number in of.iter_mut() {
+        let Some(rest) = left else {
+            return false;
+        };
+        let (field, next) = first_field(rest);
+        let Some(value) = number_in(field, most) else {
+            return false;
+        };
+        *number = value;
+        left = next;
+    }
+    left.is_none()
+}
+
 // The numbers, none above a limit, that the fields of a line are, where there are so many of them.
 fn numbers<const N: usize>(line: &[u8], most: u32) -> Option<[u32; N]>
     ensures { result ≡ cond (are_numbers N most (fields line.now)) (Some (upto (number_at (fields line.now)) N)) None }
 {
     let mut of = [0; N];
-    let mut left = Some(line);
-    for number in &mut of {
-        let (field, rest) = first_field(left?);
-        *number = number_in(field, most)?;
-        left = rest;
+    if read_numbers(line, most, &mut of) {
+        Some(of)
+    } else {
+        None
     }
-    if left.is_some() {
-        return None;
-    }
-    Some(of)
 }
 
 // The numbers of the first line of a text, where it has a screen's form, and the text after it.
