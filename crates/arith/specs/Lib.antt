@@ -1,5 +1,6 @@
 pub mod Gcd
 pub mod Remainder
+pub mod Carry
 pub mod Sum
 pub mod First
 pub mod Every

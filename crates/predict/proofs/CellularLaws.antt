@@ -79,7 +79,7 @@ module _ (c : ℕ → ℕ) where
   unfolding weight_at
   weight_next k = rw (add-one k)
 
-  weight_limit : (m : ℕ) → ((j : ℕ) → j < 8 → c j ≤ m) → (k : ℕ) → k < 8 → weight_at c k ≤ 8 * m
+  pub weight_limit : (m : ℕ) → ((j : ℕ) → j < 8 → c j ≤ m) → (k : ℕ) → k < 8 → weight_at c k ≤ 8 * m
   unfolding weight_at
   weight_limit m most k l = mul-le-mul (omega arith) (omega (arith, falling_limit m most k))
 

@@ -216,7 +216,7 @@ module _ {F B : Type 0} (g : Mut F (ℕ × Unit {0}) B) (h : ℕ → B) (f : F) 
 -- ---- the first bad colorant
 
 -- whether the primary of a colorant has a bad value
-abbrev bad : List Xyz → ℕ → Bool
+abbrev pub bad : List Xyz → ℕ → Bool
 bad ps j = not (admitted (primary ps j))
 
 -- the first that has one, from a search that says what it found

@@ -4,7 +4,7 @@ use Prim.Native.Nat.{ℕ, zero, suc, ◌+◌, ◌-◌, ◌*◌, ◌/◌, ◌≤�
 use mathlib.Core.Path.{◌≡◌, refl, sym, ap, ap₂, ◌∙◌}
 use native.Mathlib.Omega.{arith}
 use mathlib.Core.Bool.{cond, true}
-use mathlib.Core.List.{List, ◌++◌}
+use mathlib.Core.List.{List, [], ◌∷◌, ◌++◌}
 use lib.ListN.{length, get_or, drop, get_or-append}
 use lib.Dec.{ltb}
 use borrow.Author.Tests.{lt-ltb, le-ltb}
@@ -13,9 +13,9 @@ use Rattle.arith.specs.Run.{upto}
 use Rattle.arith.specs.Rounding.{before}
 use Rattle.std.specs.Prelude.{Result, Ok, Err}
 use Rattle.std.specs.Result.{is_err}
-use Rattle.arith.specs.Refusal.{number, number_of}
+use Rattle.arith.specs.Refusal.{number, number_of, answered}
 use Rattle.arith.specs.declared.refusals.Refusal.{Refusal}
-use Rattle.arith.proofs.RefusalLaws.{number_above, answered_whole, refused_answered, refused_written, written_whole}
+use Rattle.arith.proofs.RefusalLaws.{number_above, answered_none, answered_whole, refused_answered, refused_written, written_whole}
 use Rattle.arith.proofs.RunLaws.{upto_length, upto_at, upto_same, upto_over}
 use Rattle.arith.proofs.SumLaws.{sum_same, sum_fewer}
 use Rattle.arith.proofs.StepLaws.{rises_to, before_most}
@@ -27,7 +27,7 @@ use Rattle.separation.specs.declared.Separation.{Separation}
 use Rattle.separation.specs.declared.Separation.TheVariants.{Demichel, Kueppers}
 use Rattle.separation.specs.declared.Inks.{Inks}
 use Rattle.separation.specs.Weights.{weight, weights_of, scale_of}
-use Rattle.quantiser.specs.Running.{weight_up_to, level, running, count}
+use Rattle.quantiser.specs.Running.{weight_up_to, level, running, count, Counts, counts_of}
 use Rattle.quantiser.specs.Leaves.{levels_of, threshold_of, thresholds_in, lone_threshold}
 use Rattle.quantiser.proofs.RunningLaws.{running_rises}
 
@@ -73,6 +73,18 @@ module _ (s : Screen) (sep : Separation) (inks : Inks) where
 
 -- ---- what is answered and written, refused or not
 
+module _ (s : Screen) (sep : Separation) (inks : Inks) where
+  pub counts_none : (refusal_of s ≡ 0 → ⊥) → ◌≡◌ {A = Counts} (record { refusal = refusal_of s; of = 0 ∷ 0 ∷ 0 ∷ 0 ∷ 0 ∷ 0 ∷ 0 ∷ 0 ∷ [] }) (counts_of s sep inks)
+  unfolding counts_of upto
+  counts_none h =
+      let none : (j : ℕ) → answered (refusal_of s) (count s sep inks j) ≡ 0 = λ j. answered_none (refusal_of s) (count s sep inks j) h in
+      rw (none 0, none 1, none 2, none 3, none 4, none 5, none 6, none 7)
+
+  pub counts_whole : 0 ≡ refusal_of s → upto (count s sep inks) 8 ≡ (counts_of s sep inks).of
+  unfolding counts_of
+  counts_whole e =
+      sym (upto_same (λ j. answered (refusal_of s) (count s sep inks j)) (count s sep inks) 8 (λ j l. answered_whole (refusal_of s) (count s sep inks j) (sym e)))
+
 module _ (s : Screen) (table : List ℕ) where
   -- the refusal of a table, by the tests that it is put to
   pub table_error : (e : Refusal) → number e ≡ refusal_of s → number e ≡ buffer_refusal s (length table)
@@ -85,7 +97,7 @@ module _ (s : Screen) (table : List ℕ) where
   table_fits e room = (buffer_tests s (length table)).2 e room
 
   -- and what is left in it
-  thresholds_none : 0 < buffer_refusal s (length table) → table ≡ thresholds_in s table
+  pub thresholds_none : 0 < buffer_refusal s (length table) → table ≡ thresholds_in s table
   unfolding thresholds_in
   thresholds_none above = refused_written (buffer_refusal s (length table)) (upto (threshold_of s) s.n) table above
 

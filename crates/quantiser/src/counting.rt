@@ -12,10 +12,11 @@ use screen::Screen;
 use separation::{Inks, Separation};
 
 // The quantised counts of the eight colorants for one ink triple, or what refuses the screen.
-#[tactic(auto, unfolding(crate::specs::Running::counts_of))]
+#[tactic(auto, using(crate::proofs::LevelLaws::counts_whole), unfolding(crate::specs::Running::counts_of))]
 pub fn counts(s: Screen, sep: Separation, inks: Inks) -> Result<[u32; 8], Refusal>
     ensures refused { number_of result ≡ (counts_of s sep inks).refusal }
     ensures counts { IfOk result (λ of. of ≡ upto (count s sep inks) 8) }
+    ensures laid { IfOk result (λ of. of ≡ (counts_of s sep inks).of) }
 {
     screen::check(s)?;
     Ok(counted(s, sep, inks))

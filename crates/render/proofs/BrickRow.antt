@@ -4,7 +4,7 @@
 use Prim.Native.Nat.{ℕ, ◌+◌, ◌-◌, ◌*◌, ◌/◌, ◌%◌, ◌≤◌, ◌<◌}
 use mathlib.Core.Path.{◌≡◌, sym, ap, ◌∙◌}
 use mathlib.Core.List.{List}
-use native.Mathlib.Nat.{mul-le-mul_right, mod-lt, div-lt_iff_lt-mul, div-add-mod'}
+use native.Mathlib.Nat.{le_trans, le-mul_of_pos_right, mul_comm, mul-le-mul, mul-le-mul_right, mod-lt, div-lt_iff_lt-mul, div-le_self, div-add-mod'}
 use native.Mathlib.Omega.{arith}
 use lib.ListN.{length, get_or, take, drop}
 use Rattle.arith.proofs.RunLaws.{part_length, part_at}
@@ -23,6 +23,15 @@ line_of size brick y = take (y % size.rows * size.columns + size.columns - y % s
 
 abbrev first_of : Brick → ℕ → ℕ → ℕ
 first_of size x y = (x % size.columns + size.columns - size.shift * (y / size.rows) % size.columns) % size.columns
+
+-- of a brick of few places, a row's shift is a number of few bits
+module _ {n : ℕ} {size : Brick} {brick : List ℕ} (b : BrickLent n size brick) (few : n ≤ 4096) where
+  pub columns_limit : size.columns ≤ 4096
+  columns_limit = le_trans (rw (← b.places, mul_comm size.rows size.columns) (le-mul_of_pos_right size.columns b.high)) few
+
+  pub behind_fits : (y : ℕ) → y < 65536 → size.shift * (y / size.rows) ≤ 4096 * 65536
+  behind_fits y l =
+      mul-le-mul {n₁ = size.shift} {m₁ = y / size.rows} {n₂ = 4096} {m₂ = 65536} (omega (arith, b.shifted, columns_limit)) (omega (arith, div-le_self y size.rows))
 
 module _ {n : ℕ} {size : Brick} {brick : List ℕ} (b : BrickLent n size brick) where
   -- it lies within the brick

@@ -87,7 +87,7 @@ module _ (s : Screen) (x y : ℕ) where
     pub moved_screen : beside s (offset_from s x y) ≡ (moved_to s x y).screen
     moved_screen = replaced_beside s s.n s.k (offset_from s x y) (sym ok) (sym numbers_admitted) refl
 
-    moved_served : ◌≡◌ {A = Made} (record { refusal = 0; screen = beside s (offset_from s x y) }) (moved_to s x y)
+    pub moved_served : ◌≡◌ {A = Made} (record { refusal = 0; screen = beside s (offset_from s x y) }) (moved_to s x y)
     moved_served = ap₂ (λ (r : ℕ) (t : Screen). record { refusal = r; screen = t }) moved_unrefused moved_screen
 
     pub moved_phase : (i j : ℕ) → phase (moved_to s x y).screen i j ≡ phase s (x + i) (y + j)

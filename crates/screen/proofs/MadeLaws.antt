@@ -11,8 +11,17 @@ use Rattle.arith.specs.declared.refusals.Refusal.{Refusal}
 use Rattle.arith.proofs.RefusalLaws.{refused_first, refused_later, error_first, or_none}
 use Rattle.screen.specs.declared.Screen.{Screen}
 use Rattle.screen.specs.Screens.{screen_of, numbers_refusal, refusal_of, Admitted, Stored}
-use Rattle.screen.specs.Made.{no_screen, made_of, replaced_by, Replacement, offset, subscreens, cells, replaced, after_all}
+use Rattle.screen.specs.Made.{Made, handed_back, no_screen, made_of, replaced_by, Replacement, offset, subscreens, cells, replaced, after_all}
 use Rattle.screen.proofs.Refusals.{numbers_most, stored_suffice, stored_admitted, refused_numbers, stored_kept}
+
+-- ---- what is handed back
+
+module _ (refusal : ℕ) (new other : Screen) where
+  pub handed_new : refusal ≡ 0 → ◌≡◌ {A = Made} (record { refusal = 0; screen = new }) (handed_back refusal new other)
+  handed_new e = rw (eq-eqb refusal 0 e, e)
+
+  pub handed_other : (refusal ≡ 0 → ⊥) → ◌≡◌ {A = Made} (record { refusal = refusal; screen = other }) (handed_back refusal new other)
+  handed_other h = rw (ne_eqb refusal 0 h)
 
 -- ---- making
 

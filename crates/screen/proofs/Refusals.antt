@@ -261,7 +261,7 @@ module _ (s : Screen) (buffer : List ℕ) where
   unfolding filled brick_phases
   filled_whole e = written_whole (buffer_refusal s (length buffer)) (brick_phases s) buffer s.n e (upto_length _ s.n)
 
-  filled_none : 0 < buffer_refusal s (length buffer) → buffer ≡ filled s buffer
+  pub filled_none : 0 < buffer_refusal s (length buffer) → buffer ≡ filled s buffer
   unfolding filled
   filled_none above = refused_written (buffer_refusal s (length buffer)) (brick_phases s) buffer above
 

@@ -28,7 +28,7 @@ pub overflow_sub-n : goal.overflow_sub-n
 overflow_sub-n c = omega (arith, (limits_kept _ c.requires.0).offset_below)
 
 pub loop-place-init : goal.loop-place-init
-loop-place-init c = fill_start _ _ _ _ (limits_kept _ c.requires.0).cells_above _ _ (limits_kept _ c.requires.0).offset_below (c.carry-phase.ensures (limits_kept _ c.requires.0).cells_above (sub-le _ _)).0
+loop-place-init c = fill_start _ _ _ _ (limits_kept _ c.requires.0).cells_above _ _ (limits_kept _ c.requires.0).offset_below (c.carry-phase.ensures.modulo (limits_kept _ c.requires.0).cells_above (sub-le _ _)).0
 
 pub overflow_cast-place : goal.overflow_cast-place
 overflow_cast-place c = omega (arith, (limits_kept _ c.requires.0).cells_limit, fill_phase (limits_kept _ c.requires.0).cells_above c.loop-place.invariant)
@@ -43,9 +43,9 @@ loop-place-preserved c =
     let columns = (stored_kept _ c.requires.0).columns_true in
     let room : c.args.s.n ≤ length c.args.brick.now = omega (arith, c.requires.1) in
     let below : c.loop-place.place-index < c.args.s.n = omega (arith, c.requires.1, c.loop-place-test.true) in
-    let right = c.carry-phase-in-loop-place.ensures (fill_phase (limits_kept _ c.requires.0).cells_above fill) (le_of_lt (mod-lt _ (limits_kept _ c.requires.0).cells_above)) in
+    let right = c.carry-phase-in-loop-place.ensures.modulo (fill_phase (limits_kept _ c.requires.0).cells_above fill) (le_of_lt (mod-lt _ (limits_kept _ c.requires.0).cells_above)) in
     elim c.if-column-columns.branch [
-      | then-column-columns w ↦ rw (w.phase-is, w.column-is) (fill_down (limits_kept _ c.requires.0).cells_above fill _ _ room below right.0 (w.if-column-columns.true ∙ columns) (w.carry-phase-then-column-columns.ensures right.1 (le_of_lt (mod-lt _ (limits_kept _ c.requires.0).cells_above))).0)
+      | then-column-columns w ↦ rw (w.phase-is, w.column-is) (fill_down (limits_kept _ c.requires.0).cells_above fill _ _ room below right.0 (w.if-column-columns.true ∙ columns) (w.carry-phase-then-column-columns.ensures.modulo right.1 (le_of_lt (mod-lt _ (limits_kept _ c.requires.0).cells_above))).0)
       | else-column-columns w ↦ rw (w.phase-is, w.column-is) (fill_right (limits_kept _ c.requires.0).cells_above fill _ room below right.0 (λ e. w.if-column-columns.false (e ∙ sym columns)))
     ]
 

@@ -36,4 +36,4 @@ pub overflow_sub-n : goal.overflow_sub-n
 overflow_sub-n c = le_of_lt (mod-lt _ (limits_kept _ c.requires).cells_above)
 
 pub returns : goal.returns
-returns c = (c.carry.ensures (limits_kept _ c.requires).offset_below (sub-le _ _)).0 ∙ offset_lacking _ _ _ _ (limits_kept _ c.requires).cells_above _ _ (limits_kept _ c.requires).offset_below
+returns c = (c.carry.ensures.modulo (limits_kept _ c.requires).offset_below (sub-le _ _)).0 ∙ offset_lacking _ _ _ _ (limits_kept _ c.requires).cells_above _ _ (limits_kept _ c.requires).offset_below

@@ -28,4 +28,4 @@ overflow_add-down c = omega (arith, (limits_kept _ c.requires.0).cells_limit, mu
 pub returns : goal.returns
 returns c =
     let cells = (limits_kept _ c.requires.0).cells_above in
-    (c.carry.ensures (mod-lt _ cells) (le_of_lt (mod-lt _ cells))).0 ∙ phase_apart _ _ _ _ cells _ _ _ (omega (arith, (limits_kept _ c.requires.0).cells_limit, (limits_kept _ c.requires.0).offset_below))
+    (c.carry.ensures.modulo (mod-lt _ cells) (le_of_lt (mod-lt _ cells))).0 ∙ phase_apart _ _ _ _ cells _ _ _ (omega (arith, (limits_kept _ c.requires.0).cells_limit, (limits_kept _ c.requires.0).offset_below))
