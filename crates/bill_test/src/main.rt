@@ -227,10 +227,9 @@ fn show_job(out: &mut impl fmt::Write, name: &str, cells: [u64; 3]) -> fmt::Resu
     windows[1][3] = cells[1];
     windows[2][7] = cells[2];
     show(out, name, LOW, windows.as_flattened())?;
-    for (place, window) in ["first", "second", "third"].iter().zip(&windows) {
-        show(out, format_args!("its {place} window"), LOW, window)?;
-    }
-    Ok(())
+    show(out, "its first window", LOW, &windows[0])?;
+    show(out, "its second window", LOW, &windows[1])?;
+    show(out, "its third window", LOW, &windows[2])
 }
 
 // Jobs of 1,000 windows, each with two of these: a window costs a cent, and the windows together cost 999
@@ -256,15 +255,17 @@ fn first(run: &[u64], length: usize) -> &[u64] {
     &run[..length.min(run.len())]
 }
 
-// Shows the charge of a job: its refusal, 0 where there is none, and its cents.
+// Shows the charge of a job: its refusal, 0 where there is none, and its cents. Both are written alike, also a 0,
+// and each is a write of its own, as it was before the design pass.
 fn show(
     out: &mut impl fmt::Write,
     name: impl Display + Drop,
     prices: [u32; 8],
     run: &[u64],
 ) -> fmt::Result {
-    match bill::charge(prices, run) {
-        Ok(cents) => writeln!(out, "{name}: 0 {cents}"),
-        Err(refusal) => writeln!(out, "{name}: {} 0", u32::from(refusal)),
-    }
+    let (refusal, cents) = match bill::charge(prices, run) {
+        Ok(cents) => (0, cents),
+        Err(refusal) => (u32::from(refusal), 0),
+    };
+    writeln!(out, "{name}: {refusal} {cents}")
 }

@@ -30,11 +30,12 @@ impl Window {
         })
     }
 
-    // How many bytes a row of a plane has.
+    // How many bytes a row of a plane has. Not `div_ceil`, from whose test the compiler learns that a row of one
+    // place has `columns` pixels there, and forgets that these are seven at most: it then packs such rows by a loop.
     pub fn row_bytes(self) -> usize
         ensures { result ≡ row_bytes self.columns }
     {
-        self.columns.div_ceil(8)
+        (self.columns + 7) / 8
     }
 
     // How many bytes a plane has.

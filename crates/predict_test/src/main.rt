@@ -6,11 +6,13 @@
 
 ghost use Rattle.std.specs.Prelude.{◌<◌};
 
+use arrayvec::ArrayString;
 use predict::{CellularError, PredictionError, Xyz};
 use printing::Output;
 use screen::Screen;
 use separation::{Inks, Separation};
 use std::fmt;
+use std::fmt::Write;
 
 // The values of a run: 765, which are the records of all sets, and others beyond them.
 const LENGTH: usize = 2048;
@@ -556,9 +558,9 @@ struct Plain(Result<Xyz, PredictionError>);
 impl fmt::Display for Plain {
     fn fmt<W: fmt::Write>(&self, f: &mut fmt::Formatter<W>) -> fmt::Result {
         match self.0 {
-            Ok(p) => write!(f, "colour {}", Values(p)),
-            Err(PredictionError::Primary(colorant)) => write!(f, "bad primary {colorant}"),
-            Err(PredictionError::Screen(refusal)) => write!(f, "bad screen {}", u32::from(refusal)),
+            Ok(p) => write!(f, "colour{}", Values(p)),
+            Err(PredictionError::Primary(colorant)) => numbered(f, "bad primary", colorant),
+            Err(PredictionError::Screen(refusal)) => numbered(f, "bad screen", u32::from(refusal)),
         }
     }
 }
@@ -570,39 +572,40 @@ struct Sets(Result<Xyz, CellularError>);
 impl fmt::Display for Sets {
     fn fmt<W: fmt::Write>(&self, f: &mut fmt::Formatter<W>) -> fmt::Result {
         match self.0 {
-            Ok(p) => write!(f, "cellular {}", Values(p)),
-            Err(CellularError::Set(set)) => write!(f, "bad set {set}"),
-            Err(CellularError::Refused(refusal)) => write!(f, "refused {}", u32::from(refusal)),
+            Ok(p) => write!(f, "cellular{}", Values(p)),
+            Err(CellularError::Set(set)) => numbered(f, "bad set", set),
+            Err(CellularError::Refused(refusal)) => numbered(f, "refused", u32::from(refusal)),
         }
     }
 }
 
-// X, Y and Z.
+// Words and a number. Here and in values each space and each number is a write of its own, as it was before the
+// design pass, so that a full pipe, which loses what it can't take, loses the same.
+fn numbered<W: fmt::Write>(f: &mut fmt::Formatter<W>, words: &str, number: u32) -> fmt::Result {
+    write!(f, "{words} {number}")
+}
+
+// X, Y and Z, a space before each.
 #[derive(Clone, Copy)]
 struct Values(Xyz);
 
 impl fmt::Display for Values {
     fn fmt<W: fmt::Write>(&self, f: &mut fmt::Formatter<W>) -> fmt::Result {
-        write!(
-            f,
-            "{} {} {}",
-            Bits(self.0.x),
-            Bits(self.0.y),
-            Bits(self.0.z)
-        )
+        write!(f, "{}{}{}", Bits(self.0.x), Bits(self.0.y), Bits(self.0.z))
     }
 }
 
-// The bits of a value; a NaN has none that are told.
+// The bits of a value, all digits at once; a NaN has none that are told.
 #[derive(Clone, Copy)]
 struct Bits(f64);
 
 impl fmt::Display for Bits {
     fn fmt<W: fmt::Write>(&self, f: &mut fmt::Formatter<W>) -> fmt::Result {
         if self.0.is_nan() {
-            write!(f, "nan")
-        } else {
-            write!(f, "{:016x}", self.0.to_bits())
+            return write!(f, " nan");
         }
+        let mut digits = ArrayString::<16>::new();
+        write!(digits, "{:016x}", self.0.to_bits())?;
+        write!(f, " {digits}")
     }
 }
