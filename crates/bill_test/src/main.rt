@@ -227,9 +227,11 @@ fn show_job(out: &mut impl fmt::Write, name: &str, cells: [u64; 3]) -> fmt::Resu
     windows[1][3] = cells[1];
     windows[2][7] = cells[2];
     show(out, name, LOW, windows.as_flattened())?;
-    show(out, "its first window", LOW, &windows[0])?;
-    show(out, "its second window", LOW, &windows[1])?;
-    show(out, "its third window", LOW, &windows[2])
+    let names = ["its first window", "its second window", "its third window"];
+    for (name, window) in names.iter().zip(&windows) {
+        show(out, name, LOW, window)?;
+    }
+    Ok(())
 }
 
 // Jobs of 1,000 windows, each with two of these: a window costs a cent, and the windows together cost 999

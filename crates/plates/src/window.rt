@@ -30,8 +30,8 @@ impl Window {
         })
     }
 
-    // How many bytes a row of a plane has. Not `div_ceil`, from whose test the compiler learns that a row of one
-    // place has `columns` pixels there, and forgets that these are seven at most: it then packs such rows by a loop.
+    // How many bytes a row of a plane has. Not `div_ceil`: beside its test the compiler no longer sees that a row's
+    // only place has seven pixels at most, and packs them by a loop in place of a line for each.
     pub fn row_bytes(self) -> usize
         ensures { result ≡ row_bytes self.columns }
     {
