@@ -257,8 +257,8 @@ fn first(run: &[u64], length: usize) -> &[u64] {
     &run[..length.min(run.len())]
 }
 
-// Shows the charge of a job: its refusal, 0 where there is none, and its cents. Both are written alike, also a 0,
-// and each is a write of its own, as it was before the design pass.
+// Shows the charge of a job: its refusal, 0 where there is none, and its cents, 0 beside a refusal. Each number is a
+// write of its own, also a 0.
 fn show(
     out: &mut impl fmt::Write,
     name: impl Display + Drop,

@@ -579,8 +579,8 @@ impl fmt::Display for Sets {
     }
 }
 
-// Words and a number. Here and in values each space and each number is a write of its own, as it was before the
-// design pass, so that a full pipe, which loses what it can't take, loses the same.
+// Words, a space and a number, each a write of its own, for `write!` cuts its text where something is put in. Where
+// the writes begin shows in a full pipe, which loses whole ones.
 fn numbered<W: fmt::Write>(f: &mut fmt::Formatter<W>, words: &str, number: u32) -> fmt::Result {
     write!(f, "{words} {number}")
 }
@@ -595,7 +595,8 @@ impl fmt::Display for Values {
     }
 }
 
-// The bits of a value, all digits at once; a NaN has none that are told.
+// A space, and the digits of a value's bits in one write, which `{:016x}` alone would cut after its zeros; a NaN has
+// none that are told.
 #[derive(Clone, Copy)]
 struct Bits(f64);
 
