@@ -58,7 +58,8 @@ fn examples(out: &mut impl fmt::Write) -> fmt::Result {
     show(out, "a cent a cell, twice", HIGH, [BRICK; 2].as_flattened())?;
     show(out, "one cell", LOW, &ends(1, 0))?;
     show(out, "free ink", [0; 8], &BRICK)?;
-    show(out, "largest job", HIGH, &[EVEN; 8000])?;
+    let largest = [EVEN; 8000];
+    show(out, "largest job", HIGH, &largest)?;
     show(out, "no cell", HIGH, &[0; 8])
 }
 

@@ -199,7 +199,7 @@ fn show_counted(out: &mut impl fmt::Write, s: Screen) -> fmt::Result {
     let inks = inks_of(51, 102, 204);
     for sep in BOTH {
         let case = Case { s, sep, inks };
-        writeln!(out, "{case}:{}", Spaced(&quantiser::counted(s, sep, inks)))?;
+        writeln!(out, "{case}: {}", Eight(quantiser::counted(s, sep, inks)))?;
     }
     Ok(())
 }
@@ -275,7 +275,8 @@ fn phases(out: &mut impl fmt::Write) -> fmt::Result {
 fn bars(out: &mut impl fmt::Write) -> fmt::Result {
     let levels = [10, 20, 20, 30, 40, 50, 60, 70];
     for bar in [0, 10, 11, 20, 21, 60, 61, 71, u64::MAX] {
-        writeln!(out, "{bar}: {}", quantiser::colorant_of(levels, bar))?;
+        let colorant = quantiser::colorant_of(levels, bar);
+        writeln!(out, "{bar}:{}", Spaced(&[colorant]))?;
     }
     Ok(())
 }
@@ -360,9 +361,9 @@ fn show_both(out: &mut impl fmt::Write, s: Screen, inks: Inks) -> fmt::Result {
         let counts = quantiser::counts(s, sep, inks);
         writeln!(
             out,
-            "{case}: {};{}",
+            "{case}: {}; {}",
             number_of(counts),
-            Spaced(&counts.unwrap_or([0; 8]))
+            Eight(counts.unwrap_or([0; 8]))
         )?;
     }
     Ok(())
@@ -430,6 +431,16 @@ impl fmt::Display for Case {
         };
         let Inks { c, m, y } = self.inks;
         write!(f, "{}, {separation}, {c} {m} {y}", Numbers(self.s))
+    }
+}
+
+// Eight counts, with a space between two.
+#[derive(Clone, Copy)]
+struct Eight([u32; 8]);
+
+impl fmt::Display for Eight {
+    fn fmt<W: fmt::Write>(&self, f: &mut fmt::Formatter<W>) -> fmt::Result {
+        write!(f, "{}{}", self.0[0], Spaced(&self.0[1..]))
     }
 }
 

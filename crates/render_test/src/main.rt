@@ -611,10 +611,11 @@ fn show_cell(page: &mut impl fmt::Write, s: Screen, x: u32, y: u32, inks: Inks) 
 }
 
 fn show_colorant(page: &mut impl fmt::Write, answer: Result<u8, Refusal>) -> fmt::Result {
-    match answer {
-        Ok(colorant) => write!(page, "0 {colorant}"),
-        Err(refusal) => write!(page, "{} 0", u32::from(refusal)),
-    }
+    let (refusal, colorant) = match answer {
+        Ok(colorant) => (0, colorant),
+        Err(refusal) => (u32::from(refusal), 0),
+    };
+    write!(page, "{refusal} {colorant}")
 }
 
 // The heading of what is shown of a screen that stores these numbers.
