@@ -5,6 +5,7 @@
 
 ghost use Rattle.std.specs.Prelude.{◌<◌};
 
+use arith::number_of;
 use printing::Output;
 use std::fmt;
 use std::fmt::Display;
@@ -58,8 +59,7 @@ fn examples(out: &mut impl fmt::Write) -> fmt::Result {
     show(out, "a cent a cell, twice", HIGH, [BRICK; 2].as_flattened())?;
     show(out, "one cell", LOW, &ends(1, 0))?;
     show(out, "free ink", [0; 8], &BRICK)?;
-    let largest = [EVEN; 8000];
-    show(out, "largest job", HIGH, &largest)?;
+    show(out, "largest job", HIGH, &[EVEN; 8000])?;
     show(out, "no cell", HIGH, &[0; 8])
 }
 
@@ -258,17 +258,13 @@ fn first(run: &[u64], length: usize) -> &[u64] {
     &run[..length.min(run.len())]
 }
 
-// Shows the charge of a job: its refusal, 0 where there is none, and its cents, 0 beside a refusal. Each number is a
-// write of its own, also a 0.
+// Shows the charge of a job: its refusal, 0 where there is none, and its cents, 0 beside a refusal.
 fn show(
     out: &mut impl fmt::Write,
     name: impl Display + Drop,
     prices: [u32; 8],
     run: &[u64],
 ) -> fmt::Result {
-    let (refusal, cents) = match bill::charge(prices, run) {
-        Ok(cents) => (0, cents),
-        Err(refusal) => (u32::from(refusal), 0),
-    };
-    writeln!(out, "{name}: {refusal} {cents}")
+    let cents = bill::charge(prices, run);
+    writeln!(out, "{name}: {} {}", number_of(cents), cents.unwrap_or(0))
 }

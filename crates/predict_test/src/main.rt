@@ -579,8 +579,7 @@ impl fmt::Display for Sets {
     }
 }
 
-// Words, a space and a number, each a write of its own, for `write!` cuts its text where something is put in. Where
-// the writes begin shows in a full pipe, which loses whole ones.
+// Words, a space and a number, each a write of its own.
 fn numbered<W: fmt::Write>(f: &mut fmt::Formatter<W>, words: &str, number: u32) -> fmt::Result {
     write!(f, "{words} {number}")
 }

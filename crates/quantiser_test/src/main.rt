@@ -199,7 +199,7 @@ fn show_counted(out: &mut impl fmt::Write, s: Screen) -> fmt::Result {
     let inks = inks_of(51, 102, 204);
     for sep in BOTH {
         let case = Case { s, sep, inks };
-        writeln!(out, "{case}: {}", Eight(quantiser::counted(s, sep, inks)))?;
+        writeln!(out, "{case}: {}", Counts(quantiser::counted(s, sep, inks)))?;
     }
     Ok(())
 }
@@ -275,8 +275,8 @@ fn phases(out: &mut impl fmt::Write) -> fmt::Result {
 fn bars(out: &mut impl fmt::Write) -> fmt::Result {
     let levels = [10, 20, 20, 30, 40, 50, 60, 70];
     for bar in [0, 10, 11, 20, 21, 60, 61, 71, u64::MAX] {
-        let colorant = quantiser::colorant_of(levels, bar);
-        writeln!(out, "{bar}:{}", Spaced(&[colorant]))?;
+        write!(out, "{bar}:")?;
+        writeln!(out, " {}", quantiser::colorant_of(levels, bar))?;
     }
     Ok(())
 }
@@ -363,7 +363,7 @@ fn show_both(out: &mut impl fmt::Write, s: Screen, inks: Inks) -> fmt::Result {
             out,
             "{case}: {}; {}",
             number_of(counts),
-            Eight(counts.unwrap_or([0; 8]))
+            Counts(counts.unwrap_or([0; 8]))
         )?;
     }
     Ok(())
@@ -434,11 +434,11 @@ impl fmt::Display for Case {
     }
 }
 
-// Eight counts, with a space between two.
+// The counts of the colorants, with spaces between.
 #[derive(Clone, Copy)]
-struct Eight([u32; 8]);
+struct Counts([u32; 8]);
 
-impl fmt::Display for Eight {
+impl fmt::Display for Counts {
     fn fmt<W: fmt::Write>(&self, f: &mut fmt::Formatter<W>) -> fmt::Result {
         write!(f, "{}{}", self.0[0], Spaced(&self.0[1..]))
     }

@@ -5,7 +5,7 @@
 
 ghost use Rattle.std.specs.Prelude.{◌<◌};
 
-use arith::Refusal;
+use arith::{Refusal, number_of};
 use printing::Output;
 use render::Window;
 use screen::Screen;
@@ -584,12 +584,8 @@ fn show_rendering(
     answer: Result<[u64; 8], Refusal>,
     out: &[u8; 105],
 ) -> fmt::Result {
-    let (refusal, tallies) = match answer {
-        Ok(tallies) => (0, tallies),
-        Err(refusal) => (u32::from(refusal), [0; 8]),
-    };
-    write!(page, "{refusal};")?;
-    for tally in tallies {
+    write!(page, "{};", number_of(answer))?;
+    for tally in answer.unwrap_or([0; 8]) {
         write!(page, " {tally}")?;
     }
     write!(page, "; ")?;
@@ -611,11 +607,7 @@ fn show_cell(page: &mut impl fmt::Write, s: Screen, x: u32, y: u32, inks: Inks) 
 }
 
 fn show_colorant(page: &mut impl fmt::Write, answer: Result<u8, Refusal>) -> fmt::Result {
-    let (refusal, colorant) = match answer {
-        Ok(colorant) => (0, colorant),
-        Err(refusal) => (u32::from(refusal), 0),
-    };
-    write!(page, "{refusal} {colorant}")
+    write!(page, "{} {}", number_of(answer), answer.unwrap_or(0))
 }
 
 // The heading of what is shown of a screen that stores these numbers.
